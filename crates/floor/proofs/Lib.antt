@@ -1,0 +1,9 @@
+pub mod Plane
+pub mod Legal
+pub mod Walks
+pub mod Pigeonhole
+pub mod Simple
+pub mod Runs
+pub mod Kept
+pub mod Jumps
+pub mod Steps

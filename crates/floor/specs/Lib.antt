@@ -1,0 +1,10 @@
+pub mod Tally
+pub mod Plane
+pub mod Plans
+pub mod Routes
+pub mod Jumps
+pub mod Places
+pub mod Runs
+pub mod Facts
+pub mod Steps
+pub mod JumpFacts
