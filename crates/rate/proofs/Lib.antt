@@ -1,0 +1,4 @@
+pub mod Weighed
+pub mod Derived
+pub mod Roots
+pub mod Lengths
