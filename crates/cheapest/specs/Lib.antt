@@ -1,0 +1,2 @@
+pub mod Cheapest
+pub mod Claims
