@@ -1,0 +1,2 @@
+// What an estimator sees: counts as millimetres.
+pub mod millimetres;
