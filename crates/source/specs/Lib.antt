@@ -1,0 +1,4 @@
+pub mod Ground
+pub mod Labels
+pub mod Sizes
+pub mod Drawing
