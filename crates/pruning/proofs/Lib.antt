@@ -1,0 +1,9 @@
+pub mod Prune
+pub mod Sightings
+pub mod Leaps
+pub mod Sound
+pub mod Pruning
+pub mod Drifting
+pub mod Answering
+pub mod Going
+pub mod Cheapest

@@ -1,0 +1,4 @@
+pub mod Claims
+pub mod Successors
+pub mod Goings
+pub mod Cheapest
