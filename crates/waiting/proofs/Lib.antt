@@ -1,0 +1,3 @@
+pub mod Sift
+pub mod Carry
+pub mod Ends
