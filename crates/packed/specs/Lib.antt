@@ -1,0 +1,4 @@
+pub mod Bits
+pub mod Layout
+pub mod Laws
+pub mod Scans
