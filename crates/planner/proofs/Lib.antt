@@ -1,0 +1,2 @@
+pub mod Shut
+pub mod Legs

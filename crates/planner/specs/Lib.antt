@@ -1,0 +1,3 @@
+pub mod Loops
+pub mod Shutting
+pub mod Touring
