@@ -1,4 +1,5 @@
 // The byte source: a plan on lent bytes, one to a cell.
+#![tactic(auto)]
 mod drawn;
 mod layout;
 

@@ -1,4 +1,5 @@
 // Compares the planner and its sources with plain answers, worked out cell by cell, on many floors, and prints how many differ.
+#![tactic(auto)]
 mod asking;
 mod courses;
 mod dice;

@@ -1,4 +1,5 @@
 // The words of the subject: cells, headings, sides and the counts of a route.
+#![tactic(auto)]
 mod facts;
 mod headings;
 

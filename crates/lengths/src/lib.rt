@@ -1,4 +1,5 @@
 // Lengths and routes between two cells, over a borrowed source and a borrowed rate.
+#![tactic(auto)]
 mod answers;
 mod drawing;
 mod leaps;

@@ -1,4 +1,5 @@
 // The planner: what an office asks of a floor, and what it is answered.
+#![tactic(auto)]
 mod answers;
 mod drawing;
 mod marking;

@@ -1,4 +1,5 @@
 // Reads calls from standard input, puts them to two planners over different sources, and prints the answers and whether the two agree.
+#![tactic(auto)]
 mod script;
 mod telling;
 

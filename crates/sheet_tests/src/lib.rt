@@ -1,4 +1,5 @@
 // Sheets at the edges of the rules: each refusal, the largest sheets that pass, and what is printed.
+#![tactic(auto)]
 use floor::Cell;
 use sheet::{Entry, Mark};
 
