@@ -80,7 +80,7 @@ def identifiers():
         names = set(re.findall(r"\b[A-Za-z][A-Za-z0-9]*(?:_[A-Za-z0-9]+)+\b", "\n".join(l for l in read(path).split("\n") if "ghost use" not in l)))
         found.setdefault(crate, set()).update(names)
         common |= {n for n in re.findall(r"\bfn (\w+_\w+)", read(path))}
-    common |= {"in_err", "in_ok", "from_residual", "copy_from_slice", "as_slice", "as_mut_slice", "iter_mut", "is_empty", "get_mut", "trailing_zeros", "leading_zeros", "swap_remove", "saturating_sub", "write_all", "push_str", "as_str", "as_bytes", "split_at"}
+    common |= {"overflow_add", "overflow_sub", "overflow_mul", "overflow_shl", "overflow_shr", "overflow_cast", "overflow_step", "nonzero_div", "nonzero_rem", "offset_bounds", "slice_bounds", "invariant_of", "yielded_by", "in_default", "in_err", "in_ok", "from_residual", "copy_from_slice", "as_slice", "as_mut_slice", "iter_mut", "is_empty", "get_mut", "trailing_zeros", "leading_zeros", "swap_remove", "saturating_sub", "write_all", "push_str", "as_str", "as_bytes", "split_at"}
     return {c: sorted(n | common, key=lambda x: -len(x)) for c, n in found.items()}
 
 
@@ -88,7 +88,7 @@ def keep(token, names):
     """A generated name with the source's names in it as the source spells them."""
     for name in names:
         dashed = name.replace("_", "-")
-        token = re.sub(r"(?<![^\-·])" + re.escape(dashed) + r"(?![^\-·'])", name, token)
+        token = re.sub(r"(?<![^\-·+])" + re.escape(dashed) + r"(?![^\-·'+])", name, token)
     return token
 
 

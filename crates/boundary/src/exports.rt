@@ -6,7 +6,7 @@ ghost use Rattle.boundary.specs.Batches.{Done};
 
 use crate::batches::run;
 use crate::numbers::{Query, Reply};
-use bytes::ByteSource;
+use octets::ByteSource;
 use packed::PackedSource;
 use rates::exact::ExactRate;
 use std::alloc::Global;

@@ -1,5 +1,6 @@
 // Cheapest routes: what it means that no rival costs less, whatever its length, for a route and for a loop.
 #![tactic(auto)]
+
 ghost use Rattle.floor.specs.Routes.{Laying, Fair};
 ghost use Rattle.cheapest.specs.Claims.{Rivals};
 

@@ -2,7 +2,7 @@
 use crate::edges::{put_edges, put_figures};
 use crate::tally::Line;
 use crate::visits::Extent;
-use bytes::ByteSource;
+use octets::ByteSource;
 use floor::Cell;
 use packed::PackedSource;
 use planner::Planner;

@@ -6,7 +6,7 @@ use crate::flood::Price;
 use crate::floors::Kind;
 use crate::grid::Grid;
 use crate::tally::Tally;
-use bytes::ByteSource;
+use octets::ByteSource;
 use packed::PackedSource;
 use rate::Rate;
 use rates::counter::CounterRate;

@@ -1,11 +1,10 @@
 -- The facts about routes, put together.
-use Rattle.std.proofs.Common.{◌≡◌, ℕ, ◌+◌, ◌*◌, ◌<◌, ◌≤◌, Bool, true, false, cond, ◌&&◌, eqb, ltb, sym, refl, ap, ◌∙◌, subst, arith}
+use Rattle.std.proofs.Common.{◌≡◌, ◌≤◌, Bool, true, false, cond, ◌&&◌, eqb, ltb, refl, ap, ◌∙◌, subst, arith}
 use Rattle.std.proofs.lemmas.Nat.{mul-le}
 use Rattle.std.proofs.lemmas.Bool.{and_parts, eqb-true}
 use Rattle.floor.specs.declared.Counts.{Counts}
-use Rattle.floor.specs.Tally.{steps}
 use Rattle.floor.specs.Plane.{Point}
-use Rattle.floor.specs.Plans.{Plan, Sized, opens}
+use Rattle.floor.specs.Plans.{Plan, opens}
 use Rattle.floor.specs.Routes.{end, cells, tally, Laying, Laid, Fair}
 use Rattle.floor.specs.Facts.{Simple, RoutesKeep, SixteenThousand, MarksOneCell}
 use Rattle.floor.proofs.Walks.{joined, turned_round, grown}

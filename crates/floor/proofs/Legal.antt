@@ -1,13 +1,13 @@
 -- What a legal step is made of, and that the laying of legal steps is fair.
-use Rattle.std.proofs.Common.{◌≡◌, Bool, true, false, not, ◌&&◌, ◌||◌, ◌⊎◌, sym, refl, ap, ◌∙◌, subst, inl, inr}
-use Rattle.std.proofs.lemmas.Bool.{cases_Bool, both_ways, and_parts, and_from}
+use Rattle.std.proofs.Common.{◌≡◌, Bool, true, false, not, ◌&&◌, ◌||◌, sym, refl, ap, ◌∙◌, subst}
+use Rattle.std.proofs.lemmas.Bool.{both_ways, and_parts, and_from}
 use Rattle.floor.specs.declared.Heading.{Heading}
 use Rattle.floor.specs.declared.Side.{Side}
 use Rattle.floor.specs.declared.Side.TheVariants.{Left, Right}
 use Rattle.floor.specs.Plane.{Point, turn, opposite, diagonal, step}
 use Rattle.floor.specs.Plans.{legal}
 use Rattle.floor.specs.Routes.{Grows, Fair}
-use Rattle.floor.proofs.Plane.{other, turn_back, turn_opposite, opposite_diagonal, beside_diagonal, undo, swap, beside}
+use Rattle.floor.proofs.Plane.{other, turn_back, turn_opposite, opposite_diagonal, beside_diagonal, undo, beside}
 
 module _ (free : Point → Bool) where
   -- a legal step by its cells

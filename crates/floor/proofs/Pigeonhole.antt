@@ -1,5 +1,5 @@
 -- A list of distinct numbers below n has at most n entries: strike out n - 1, and go on below it.
-use Rattle.std.proofs.Common.{◌≡◌, ℕ, zero, suc, ◌<◌, ◌≤◌, Bool, true, false, cond, ◌⊎◌, List, [], ◌∷◌, length, sym, refl, ap, ◌∙◌, subst, inl, inr, not-suc-le-zero, arith}
+use Rattle.std.proofs.Common.{◌≡◌, ℕ, zero, suc, ◌<◌, ◌≤◌, List, [], ◌∷◌, length, subst, inl, inr, not-suc-le-zero, arith}
 use Rattle.std.proofs.lemmas.Bool.{cases_eq}
 use Rattle.floor.specs.Routes.{Apart, Distinct}
 

@@ -1,5 +1,5 @@
 -- The laws of headings and steps, each by one table over the eight headings; everything else uses these laws only.
-use Rattle.std.proofs.Common.{◌≡◌, Bool, true, false, not, ◌⊎◌, ℤ, pos, ◌+ℤ◌, sym, refl, ap, ◌∙◌, subst, inl, inr, true≢false, arith}
+use Rattle.std.proofs.Common.{◌≡◌, true, false, not, ℤ, pos, ◌+ℤ◌, sym, refl, ap, ◌∙◌, subst, true≢false, arith}
 use borrow.Author.Differences.{ints}
 use Rattle.floor.specs.declared.Heading.{Heading}
 use Rattle.floor.specs.declared.Heading.TheVariants.{North, NorthEast, East, SouthEast, South, SouthWest, West, NorthWest}

@@ -1,17 +1,16 @@
 -- A route bends at the end of each of its runs and nowhere else: along a run nothing is added to the corners.
-use Rattle.std.proofs.Common.{◌≡◌, ℕ, zero, suc, ◌+◌, ◌<◌, ◌≤◌, Bool, true, false, cond, eqb, ◌⊎◌, List, [], ◌∷◌, ◌++◌, length, replicate, Some, None, Option, sym, refl, ap, ◌∙◌, subst, inl, inr, not-suc-le-zero, arith}
+use Rattle.std.proofs.Common.{◌≡◌, ℕ, zero, suc, ◌≤◌, Bool, true, false, cond, List, [], ◌∷◌, ◌++◌, length, replicate, Some, sym, refl, ap, ◌∙◌, inl, inr, not-suc-le-zero, arith}
 use Rattle.std.proofs.lemmas.Bool.{cases_Bool, cond_both, eqb-true, eq-eqb}
-use Rattle.floor.specs.declared.Counts.{Counts}
 use Rattle.floor.specs.declared.Heading.{Heading}
-use Rattle.floor.specs.Tally.{counts, none, plus, steps}
+use Rattle.floor.specs.Tally.{counts, none, plus}
 use Rattle.floor.specs.Plane.{Point, number, heading, same, diagonal, step}
-use Rattle.floor.specs.Routes.{end, cells, one, tally, bends, corners}
+use Rattle.floor.specs.Routes.{cells, one, tally, bends, corners}
 use Rattle.floor.specs.Jumps.{walk}
 use Rattle.floor.specs.Places.{many}
 use Rattle.floor.specs.Runs.{Stretch, laid_out, ends_of, sum_of, TurnsFrom, Turning}
 use Rattle.floor.specs.Facts.{ByRuns, FromRuns}
 use Rattle.floor.proofs.Plane.{each}
-use Rattle.floor.proofs.Walks.{pair, plus_assoc, none_plus, tally-++}
+use Rattle.floor.proofs.Walks.{pair, tally-++}
 use Rattle.floor.proofs.Simple.{cells_steps}
 
 -- ---- headings are known by their numbers

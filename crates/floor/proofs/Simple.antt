@@ -1,15 +1,15 @@
 -- Every route has one below it that visits no cell twice: where a cell comes again, leave out what lies between.
-use Rattle.std.proofs.Common.{◌≡◌, ℕ, zero, suc, ◌+◌, ◌*◌, ◌<◌, ◌≤◌, Bool, true, false, cond, ◌&&◌, ◌⊎◌, List, [], ◌∷◌, map, length, ℤ, pos, negsuc, nat_abs, sym, refl, ap, ◌∙◌, subst, inl, inr, arith}
+use Rattle.std.proofs.Common.{◌≡◌, ℕ, suc, ◌+◌, ◌*◌, ◌<◌, ◌≤◌, Bool, true, false, cond, ◌⊎◌, List, [], ◌∷◌, map, length, ℤ, pos, negsuc, nat_abs, sym, refl, ap, ◌∙◌, subst, inl, inr, arith}
 use lib.IntN.{ℤ_discrete}
 use Rattle.std.proofs.lemmas.Bool.{and_parts, both_ways, ltb-true, cases_order}
 use Rattle.std.proofs.lemmas.Nat.{mul-le}
 use Rattle.std.proofs.lemmas.List.{length-map}
 use Rattle.floor.specs.declared.Counts.{Counts}
 use Rattle.floor.specs.declared.Heading.{Heading}
-use Rattle.floor.specs.Tally.{counts, none, plus, steps}
+use Rattle.floor.specs.Tally.{counts, steps}
 use Rattle.floor.specs.Plane.{Point, diagonal, step}
 use Rattle.floor.specs.Plans.{Plan, open_at, opens}
-use Rattle.floor.specs.Routes.{end, cells, one, tally, Apart, Distinct, Laying, Walk, Laid, Fair}
+use Rattle.floor.specs.Routes.{end, cells, one, tally, Apart, Distinct, Laying, Walk, Fair}
 use Rattle.floor.proofs.Plane.{at}
 use Rattle.floor.proofs.Pigeonhole.{Below, few_below}
 

@@ -1,5 +1,5 @@
 -- Where a step from a cell leads no cell lies that a plan could hold.
-use Rattle.std.proofs.Common.{◌≡◌, ℕ, ◌<◌, Bool, true, false, ◌⊎◌, ℤ, pos, negsuc, None, refl, ap, inl, inr, arith}
+use Rattle.std.proofs.Common.{◌≡◌, ◌<◌, true, false, ℤ, pos, negsuc, None, refl, inl, inr, arith}
 use mathlib.Core.Bool.{false≢true}
 use Rattle.std.proofs.lemmas.Bool.{cases_Bool, and_parts, ltb-true}
 use Rattle.floor.specs.declared.Cell.{Cell}

@@ -1,10 +1,10 @@
 -- Routes join, turn round and grow, whatever the laying, if it is fair.
-use Rattle.std.proofs.Common.{◌≡◌, ℕ, zero, suc, ◌+◌, ◌<◌, ◌≤◌, Bool, true, false, cond, List, [], ◌∷◌, ◌++◌, sym, refl, ap, ◌∙◌, subst, arith}
+use Rattle.std.proofs.Common.{◌≡◌, ℕ, Bool, true, cond, List, [], ◌∷◌, ◌++◌, sym, refl, ap, ◌∙◌, subst, arith}
 use Rattle.floor.specs.declared.Counts.{Counts}
 use Rattle.floor.specs.declared.Heading.{Heading}
-use Rattle.floor.specs.Tally.{counts, none, plus, steps}
-use Rattle.floor.specs.Plane.{Point, opposite, diagonal, step}
-use Rattle.floor.specs.Routes.{end, cells, one, tally, Laying, Walk, Laid, Grows, Fair}
+use Rattle.floor.specs.Tally.{counts, none, plus}
+use Rattle.floor.specs.Plane.{Point, opposite, step}
+use Rattle.floor.specs.Routes.{end, one, tally, Laying, Walk, Laid, Grows, Fair}
 use Rattle.floor.proofs.Plane.{undo, opposite_diagonal}
 
 -- ---- counts

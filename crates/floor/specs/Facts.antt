@@ -6,7 +6,7 @@ use Rattle.floor.specs.declared.Heading.{Heading}
 use Rattle.floor.specs.Tally.{plus, steps}
 use Rattle.floor.specs.Plane.{Point}
 use Rattle.floor.specs.Plans.{Plan, Sized, inside, opens, is_open, marked}
-use Rattle.floor.specs.Routes.{cells, tally, corners, Distinct, Laying, Laid, Grows, Fair}
+use Rattle.floor.specs.Routes.{cells, tally, corners, Distinct, Laying, Laid, Grows}
 use Rattle.floor.specs.Runs.{Stretch, laid_out, ends_of, sum_of, Turning}
 
 -- a route with the same ends that visits no cell twice and has no more steps of either kind

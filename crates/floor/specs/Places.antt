@@ -1,12 +1,12 @@
 -- Places, where they go on, their successors on the way to a target, and chains of these.
-use Rattle.std.specs.Prelude.{◌≡◌, ℕ, zero, suc, ◌+◌, ◌*◌, Bool, true, false, cond, not, ◌&&◌, ◌||◌, ℤ, pos, negsuc, Some, None, Option, ◌==◌}
+use Rattle.std.specs.Prelude.{◌≡◌, ℕ, zero, suc, ◌+◌, ◌*◌, Bool, true, false, cond, ◌&&◌, ◌||◌, ℤ, pos, negsuc, Some, None, Option, ◌==◌}
 use Rattle.floor.specs.declared.Cell.{Cell}
 use Rattle.floor.specs.declared.Counts.{Counts}
 use Rattle.floor.specs.declared.Heading.{Heading}
 use Rattle.floor.specs.declared.Side.{Side}
 use Rattle.floor.specs.declared.Side.TheVariants.{Left, Right}
 use Rattle.floor.specs.Tally.{counts, none, plus}
-use Rattle.floor.specs.Plane.{Point, point, number, same, turn, opposite, diagonal, step}
+use Rattle.floor.specs.Plane.{Point, number, same, turn, opposite, diagonal, step}
 use Rattle.floor.specs.Plans.{Plan, opens}
 use Rattle.floor.specs.Jumps.{walk, stop, jump_from}
 

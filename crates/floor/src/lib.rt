@@ -1,5 +1,6 @@
 // The words of the subject: cells, headings, sides and the counts of a route.
 #![tactic(auto)]
+
 mod facts;
 mod headings;
 

@@ -1,5 +1,6 @@
 // Rates: how much a route costs against another, by its counts.
 #![tactic(auto)]
+
 ghost use Rattle.std.specs.Prelude.{◌≡◌};
 ghost use Rattle.floor.specs.declared.Counts.{Counts as Pair};
 ghost use Rattle.rate.specs.declared.Comparison.{Comparison as Answer};

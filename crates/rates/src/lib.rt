@@ -1,5 +1,6 @@
 // The rates that there are: exact and counter.
 #![tactic(auto)]
+
 ghost use Rattle.std.specs.Prelude.{◌≡◌};
 ghost use Rattle.rate.specs.declared.Comparison.TheVariants.{Cheaper, Same};
 

@@ -4,7 +4,7 @@ mod script;
 mod telling;
 
 use anyhow::anyhow;
-use bytes::ByteSource;
+use octets::ByteSource;
 use history::{Answer, Call, replay_both};
 use packed::PackedSource;
 use rates::exact::ExactRate;

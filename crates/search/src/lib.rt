@@ -1,6 +1,7 @@
 // Cheapest chains over any graph of numbered places. Places wait in a heap, by the cheapest counts so far; the first of them is
 // finished, and its edges are followed.
 #![tactic(auto)]
+
 ghost use Rattle.std.specs.Prelude.{◌≡◌, ℕ, ◌+◌, ◌-◌, ◌<◌, ◌≤◌, Bool, true, false, length, take, drop, ◌≢◌, slice_index_or};
 ghost use Rattle.floor.specs.Tally.{plus, steps};
 ghost use Rattle.search.specs.Chain.{most};

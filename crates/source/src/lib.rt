@@ -1,5 +1,6 @@
 // Jump sources: what a planner asks of a floor, whatever memory holds it.
 #![tactic(auto)]
+
 mod drawing;
 mod ground;
 mod labelling;

@@ -1,5 +1,6 @@
 // Pieces written one after another to the front of a lent list; here text, to bytes.
 #![tactic(auto)]
+
 ghost use Rattle.std.specs.Prelude.{◌+◌, ◌<◌, ◌≤◌, [], ◌∷◌, length, decimal};
 ghost use Rattle.writing.specs.Fronts.{Wrote};
 ghost use Rattle.writing.specs.Values.{value, three_values};

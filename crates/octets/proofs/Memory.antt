@@ -6,8 +6,8 @@ use Rattle.floor.specs.Plans.{Plan, closed}
 use Rattle.source.specs.declared.sizes.SizeRefusal.{SizeRefusal}
 use Rattle.source.specs.Sizes.{size_answer}
 use Rattle.source.specs.Drawing.{opened}
-use Rattle.bytes.specs.Layout.{plan_of, written, Holds, Kept, New, Unmade, Made, Drawn}
-use Rattle.bytes.proofs.Cells.{byte_below}
+use Rattle.octets.specs.Layout.{plan_of, written, Holds, Kept, New, Unmade, Made, Drawn}
+use Rattle.octets.proofs.Cells.{byte_below}
 
 plain_written : (v : ℕ) → v ≤ 1 → v ≡ written (eqb v 0)
 plain_written v l = elim (cases_Bool (eqb v 0)) [

@@ -1,7 +1,7 @@
 use Rattle.std.proofs.Common.{ℕ, List, sym, subst, rules}
-use Rattle.bytes.specs.Layout.{Drawn}
-use Rattle.bytes.proofs.Memory.{drawn_by}
-use Rattle.bytes.proofs.drawn.draw.Goals as goal
+use Rattle.octets.specs.Layout.{Drawn}
+use Rattle.octets.proofs.Memory.{drawn_by}
+use Rattle.octets.proofs.drawn.draw.Goals as goal
 
 pub returns : goal.returns
 returns c =

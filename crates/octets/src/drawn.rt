@@ -1,5 +1,5 @@
 // Memory that a plan was drawn on: what it holds is known again when the source is gone.
-ghost use Rattle.bytes.specs.Layout.{Drawn};
+ghost use Rattle.octets.specs.Layout.{Drawn};
 
 use crate::layout::ByteSource;
 use floor::Cell;

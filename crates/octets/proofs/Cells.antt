@@ -5,7 +5,7 @@ use Rattle.std.proofs.lemmas.List.{drop_set_lt}
 use Rattle.std.proofs.lemmas.Bool.{cases_Bool, cases_eq, and_parts, and_cases, ltb-true, lt-ltb, eqb-true, eqb-false}
 use Rattle.floor.specs.declared.Cell.{Cell}
 use Rattle.floor.specs.Plans.{marked, closed}
-use Rattle.bytes.specs.Layout.{plan_of, byte_of, written, Kept}
+use Rattle.octets.specs.Layout.{plan_of, byte_of, written, Kept}
 
 pub byte_below : (rows cols r c : ℕ) → r < rows → c < cols → r * cols + c < rows * cols
 byte_below rows cols r c p q = omega (arith, mul-add-lt r cols c rows p q)

@@ -2,8 +2,8 @@
 ghost use Rattle.std.specs.Prelude.{◌≡◌, ℕ, ◌+◌, ◌*◌, ◌<◌, ◌≤◌, length, drop, Some, None, slice_index, refl};
 ghost use Rattle.std.proofs.Common.{◌∙◌};
 ghost use Rattle.source.specs.Sizes.{size_answer};
-ghost use Rattle.bytes.specs.Layout.{Few, plan_of, byte_of, Kept, Made};
-ghost use Rattle.bytes.specs.Laws.{sized_plan, kept_same, kept_on};
+ghost use Rattle.octets.specs.Layout.{Few, plan_of, byte_of, Kept, Made};
+ghost use Rattle.octets.specs.Laws.{sized_plan, kept_same, kept_on};
 
 use floor::Cell;
 use source::{Ground, JumpSource, SizeRefusal, size_check};

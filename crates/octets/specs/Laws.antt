@@ -3,7 +3,7 @@ use Rattle.std.specs.Prelude.{◌≡◌, ℕ, List, refl}
 use Rattle.std.proofs.Common.{◌∙◌}
 use Rattle.std.proofs.lemmas.Bool.{and_left}
 use Rattle.floor.specs.Plans.{Sized}
-use Rattle.bytes.specs.Layout.{Few, plan_of, Kept}
+use Rattle.octets.specs.Layout.{Few, plan_of, Kept}
 
 pub sized_plan : (rows cols : ℕ) (bytes : List ℕ) → Few rows cols → Sized (plan_of rows cols bytes)
 sized_plan rows cols bytes f = record { few_rows = f.0; few_cols = f.1; no_rows = f.2; no_cols = f.3; bounded = λ r c out. and_left _ _ out }

@@ -1,5 +1,6 @@
 // The byte source: a plan on lent bytes, one to a cell.
 #![tactic(auto)]
+
 mod drawn;
 mod layout;
 

@@ -1,9 +1,9 @@
 use Rattle.std.proofs.Common.{◌≡◌, sym, refl, ap, ◌∙◌}
 use Rattle.std.proofs.lemmas.Bool.{both_ways}
-use Rattle.bytes.specs.Layout.{written}
-use Rattle.bytes.proofs.Cells.{placed, mark_by}
-use Rattle.bytes.proofs.layout.ByteSourceJumpSource.mark.Goals as goal
-use Rattle.bytes.proofs.layout.ByteSourceJumpSource.mark.Goals.{then-open, else-open}
+use Rattle.octets.specs.Layout.{written}
+use Rattle.octets.proofs.Cells.{placed, mark_by}
+use Rattle.octets.proofs.layout.ByteSourceJumpSource.mark.Goals as goal
+use Rattle.octets.proofs.layout.ByteSourceJumpSource.mark.Goals.{then-open, else-open}
 
 pub returns : goal.returns
 returns c =

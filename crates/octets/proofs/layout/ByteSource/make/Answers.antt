@@ -1,7 +1,7 @@
 use Rattle.std.proofs.Common.{◌≡◌, true, false, is_err, Ok, Err, Result, sym, refl, ap, ◌∙◌, true≢false, arith, MatchResult}
 use Rattle.std.proofs.lemmas.Result.{MatchResult-from_err}
-use Rattle.bytes.proofs.Cells.{ones_closed}
-use Rattle.bytes.proofs.layout.ByteSource.make.Goals as goal
+use Rattle.octets.proofs.Cells.{ones_closed}
+use Rattle.octets.proofs.layout.ByteSource.make.Goals as goal
 
 cases_from_ok : {T E : Type 0} (r : Result T E) (P : T → Type 0) (Q : E → Type 0) → is_err r ≡ false → ((x : T) → P x) → MatchResult r P Q
 cases_from_ok (Ok x) P Q e p = p x
