@@ -17,7 +17,7 @@ import sys
 WORD = r"[^\s(){}\[\],;.\"`|]+"
 DECLARED = re.compile(r"^\s*(?:(?:abbrev|unfoldable)\s+)?(?:pub\s+)?(?:(?:data|record)\s+)?(" + WORD + r")\s+(?::|\(|\{)")
 STEP = re.compile(r"(?:^|[\s(,])(?:[cwlg]|goal|need|given)(?:\.[^\s(){}\[\],;]+)?$")
-KEPT = {"IsPermutation-swap"}
+KEPT = {"IsPermutation-swap", "drop-set-lt"}
 # Where the plain spelling is another's already.
 OTHERS = {"bit-and": "bit_of_and", "bit-or": "bit_of_or", "read-on": "reads_on", "distinct-getD": "distinct_get_or"}
 
@@ -80,7 +80,7 @@ def identifiers():
         names = set(re.findall(r"\b[A-Za-z][A-Za-z0-9]*(?:_[A-Za-z0-9]+)+\b", "\n".join(l for l in read(path).split("\n") if "ghost use" not in l)))
         found.setdefault(crate, set()).update(names)
         common |= {n for n in re.findall(r"\bfn (\w+_\w+)", read(path))}
-    common |= {"overflow_add", "overflow_sub", "overflow_mul", "overflow_shl", "overflow_shr", "overflow_cast", "overflow_step", "nonzero_div", "nonzero_rem", "offset_bounds", "slice_bounds", "invariant_of", "yielded_by", "in_default", "in_err", "in_ok", "from_residual", "copy_from_slice", "as_slice", "as_mut_slice", "iter_mut", "is_empty", "get_mut", "trailing_zeros", "leading_zeros", "swap_remove", "saturating_sub", "write_all", "push_str", "as_str", "as_bytes", "split_at"}
+    common |= {"In_default", "In_ok", "In_err", "is_err", "is_ok", "is_some", "is_none", "overflow_add", "overflow_sub", "overflow_mul", "overflow_shl", "overflow_shr", "overflow_cast", "overflow_step", "nonzero_div", "nonzero_rem", "offset_bounds", "slice_bounds", "invariant_of", "yielded_by", "in_default", "in_err", "in_ok", "from_residual", "copy_from_slice", "as_slice", "as_mut_slice", "iter_mut", "is_empty", "get_mut", "trailing_zeros", "leading_zeros", "swap_remove", "saturating_sub", "write_all", "push_str", "as_str", "as_bytes", "split_at"}
     return {c: sorted(n | common, key=lambda x: -len(x)) for c, n in found.items()}
 
 
@@ -94,6 +94,8 @@ def keep(token, names):
 
 def respell_proof(text, new, names):
     goals = set(re.findall(r"^(?:abbrev\s+)?(?:pub\s+)?(" + WORD + r")\s*:\s*(?:goal|given|need)\.", text, re.M))
+    for m in re.finditer(r"Goals\.\{([^}]*)\}", text):
+        goals |= set(re.split(r",\s*", m.group(1))) - set(new)
     out = []
     at = 0
     for m in re.finditer(WORD, text):

@@ -1,6 +1,6 @@
 -- What has been written of the corners while the way is walked back: turned round, it ends the list of all corners.
 use Rattle.std.proofs.Common.{◌≡◌, ℕ, ◌+◌, ◌<◌, ◌≤◌, Bool, true, false, cond, not, List, [], ◌∷◌, ◌++◌, reverse, length, take, drop, set, sym, refl, ap, ◌∙◌, subst, append_assoc, arith, length-append, length-set}
-use Rattle.std.proofs.lemmas.List.{reverse-append, take_more_set, drop_set_lt, drop-drop, take_at, drop_at, length-reverse, length-take-le}
+use Rattle.std.proofs.lemmas.List.{reverse-append, take_more_set, drop-set-lt, drop-drop, take_at, drop_at, length-reverse, length-take-le}
 use Rattle.std.proofs.lemmas.Bool.{not-true, not-false}
 use Rattle.floor.specs.declared.Cell.{Cell}
 use Rattle.floor.specs.Plane.{same}
@@ -73,7 +73,7 @@ module _ (cols : ℕ) (s : Cell) (marks : ℕ → Mark) (cs : List Cell) (last :
     trail = t;
     split = w.split ∙ ap (λ z. z ++ reverse (take count new)) e ∙ append_assoc ds (x ∷ []) (reverse (take count new)) ∙ ap (λ z. ds ++ z) (sym (ap reverse (take_more_set new count x l) ∙ turned (take count new) x));
     many = let a = ap length e in let b = length-append ds (x ∷ []) in omega (arith, w.many);
-    past = drop_set_lt (count + 1) new count x (omega arith) ∙ sym (drop-drop 1 count new) ∙ ap (drop 1) w.past ∙ drop-drop 1 count old;
+    past = drop-set-lt (count + 1) new count x (omega arith) ∙ sym (drop-drop 1 count new) ∙ ap (drop 1) w.past ∙ drop-drop 1 count old;
     whole = length-set new count x ∙ w.whole;
   }
 
@@ -93,5 +93,5 @@ module _ (cols : ℕ) (s : Cell) (marks : ℕ → Mark) (cs : List Cell) (last :
   turned_round at count new l w e = (
     omega (arith, ap length e, w.many),
     (λ i. (ap reverse (take_more_set new count s l) ∙ turned (take count new) s ∙ sym (w.split ∙ ap (λ z. z ++ reverse (take count new)) e)) i
-        ++ (drop_set_lt (count + 1) new count s (omega arith) ∙ sym (drop-drop 1 count new) ∙ ap (drop 1) w.past ∙ drop-drop 1 count old) i),
+        ++ (drop-set-lt (count + 1) new count s (omega arith) ∙ sym (drop-drop 1 count new) ∙ ap (drop 1) w.past ∙ drop-drop 1 count old) i),
   )

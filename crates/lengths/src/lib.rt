@@ -1,5 +1,6 @@
 // Lengths and routes between two cells, over a borrowed source and a borrowed rate.
 #![tactic(auto)]
+
 mod answers;
 mod drawing;
 mod leaps;

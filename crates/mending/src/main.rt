@@ -1,5 +1,6 @@
 // Prints how many labels of a table a mark reads and writes while it mends them, on floors of 128 × 128 cells.
 #![tactic(auto)]
+
 mod counting;
 
 use counting::{SIDE, Twin};

@@ -1,7 +1,7 @@
 -- What a write of a cell's byte does to the plan: no two cells inside share a byte.
 use Rattle.std.proofs.Common.{◌≡◌, ℕ, ◌+◌, ◌*◌, ◌/◌, ◌%◌, ◌<◌, ◌≤◌, Bool, true, false, cond, ◌&&◌, eqb, ltb, ◌≢◌, ◌⊎◌, List, length, get_or, drop, set, Some, None, sym, refl, ap, ◌∙◌, subst, inl, inr, arith, get_or-set_other, get_or-set_same}
 use Rattle.std.proofs.lemmas.Nat.{mul-add-lt, div-mul-add, mod-mul-add}
-use Rattle.std.proofs.lemmas.List.{drop_set_lt}
+use Rattle.std.proofs.lemmas.List.{drop-set-lt}
 use Rattle.std.proofs.lemmas.Bool.{cases_Bool, cases_eq, and_parts, and_cases, ltb-true, lt-ltb, eqb-true, eqb-false}
 use Rattle.floor.specs.declared.Cell.{Cell}
 use Rattle.floor.specs.Plans.{marked, closed}
@@ -60,7 +60,7 @@ module _ (rows cols : ℕ) (bytes : List ℕ) (x : Cell) (b : Bool) (r< : x.row 
   write_marks = λ i. record { rows = rows; cols = cols; free = λ r c. after_write r c i }
 
   pub write_keeps : Kept rows cols bytes (set bytes index (written b))
-  write_keeps = record { rest = drop_set_lt (rows * cols) bytes index (written b) below; plain = plain }
+  write_keeps = record { rest = drop-set-lt (rows * cols) bytes index (written b) below; plain = plain }
     where
       plain : (k : ℕ) → k < rows * cols → get_or bytes k 0 ≤ 1 → get_or (set bytes index (written b)) k 0 ≤ 1
       plain k l e = elim (cases_eq k index) [

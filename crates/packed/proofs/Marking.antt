@@ -2,7 +2,7 @@
 use Rattle.std.proofs.Common.{◌≡◌, ℕ, ◌+◌, ◌-◌, ◌*◌, ◌/◌, ◌%◌, ◌^◌, ◌<◌, ◌≤◌, Bool, true, false, cond, not, ◌&&◌, eqb, ltb, ◌≢◌, ◌⊎◌, List, length, get_or, drop, set, sym, refl, ap, ◌∙◌, subst, inl, inr, arith, get_or-set_other, get_or-set_same}
 use mathlib.Core.Bool.{not-not}
 use Rattle.std.proofs.lemmas.Nat.{mul-add-lt, div-mul-add, mod-mul-add}
-use Rattle.std.proofs.lemmas.List.{drop_set_lt, length-set}
+use Rattle.std.proofs.lemmas.List.{drop-set-lt, length-set}
 use Rattle.std.proofs.lemmas.Bool.{cases_Bool, cases_eq, and_parts, and_cases, and_left, and_right, ltb-true, ltb-false, lt-ltb, eq-eqb, ne_eqb, eqb-true, eqb-false}
 use Rattle.floor.specs.declared.Cell.{Cell}
 use Rattle.floor.specs.Plans.{is_open, marked}
@@ -145,8 +145,8 @@ module _ (rows cols : ℕ) (words : List ℕ) (x : Cell) (r< : x.row < rows) (c<
 
       marking_rest : drop (words_needed rows cols) after ≡ drop (words_needed rows cols) words
       marking_rest =
-          drop_set_lt (words_needed rows cols) (set words across v) down w down_below.1 ∙
-          drop_set_lt (words_needed rows cols) words across v (omega (arith, across_below))
+          drop-set-lt (words_needed rows cols) (set words across v) down w down_below.1 ∙
+          drop-set-lt (words_needed rows cols) words across v (omega (arith, across_below))
 
     -- what marking leaves: the layout, the plan with that cell set, and the rest
     abbrev pub Marks : List ℕ → Type 0

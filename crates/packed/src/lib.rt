@@ -1,5 +1,6 @@
 // The packed source: a plan on lent words of 64 bits, scanned a word at a time.
 #![tactic(auto)]
+
 mod copies;
 mod drawn;
 mod halves;

@@ -1,5 +1,6 @@
 // Places by their numbers, and what a search needs of the leaps between them.
 #![tactic(auto)]
+
 ghost use Rattle.std.specs.Prelude.{◌≡◌, ℕ, ◌^◌, ◌<◌};
 ghost use Rattle.floor.specs.Places.{place_number};
 ghost use Rattle.places.specs.Leaps.{cell_of, heading_of, same_cell};

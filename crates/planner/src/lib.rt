@@ -1,5 +1,6 @@
 // The planner: what an office asks of a floor, and what it is answered.
 #![tactic(auto)]
+
 mod answers;
 mod drawing;
 mod marking;

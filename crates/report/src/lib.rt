@@ -1,5 +1,6 @@
 // The texts that `quote` prints: a listing of what a sheet holds, or a refusal.
 #![tactic(auto)]
+
 ghost use Rattle.std.specs.Prelude.{◌≡◌, ◌++◌, IfOk, Some, string_bytes, codes, OnOk};
 ghost use Rattle.std.specs.List.{flat_map};
 ghost use Rattle.sheet.specs.Refusals.{figures_of};

@@ -1,6 +1,6 @@
 -- The loop over lines: what is left to read, after the entries so far, means what the whole does.
 use Rattle.std.proofs.Common.{◌≡◌, ℕ, suc, ◌+◌, ◌<◌, ◌≤◌, Bool, true, false, cond, List, [], ◌∷◌, ◌++◌, length, get_or, take, drop, set, IfOk, Some, None, Ok, Err, Option, Result, sym, refl, ap, ◌∙◌, subst, append_assoc, arith}
-use Rattle.std.proofs.lemmas.List.{length-take-le, length-set, length_push, take-append-drop, take_more_set, drop_set_lt, drop-drop}
+use Rattle.std.proofs.lemmas.List.{length-take-le, length-set, length_push, take-append-drop, take_more_set, drop-set-lt, drop-drop}
 use Rattle.sheet.specs.declared.Entry.{Entry}
 use Rattle.sheet.specs.declared.columns.Names.{Names}
 use Rattle.sheet.specs.declared.refusals.Refusal.{Refusal}
@@ -67,7 +67,7 @@ module _ {names : Names} {whole : Reading} {total : ℕ} {old list : List Entry}
         many = let all = h.many in omega arith;
         long = length-set list count e ∙ long;
         within = subst (λ n. count + 1 ≤ n) (sym (length-set list count e)) (omega arith);
-        rest = drop_set_lt (count + 1) list count e (omega arith) ∙ sym (drop-drop 1 count list) ∙ ap (drop 1) h.rest ∙ drop-drop 1 count old;
+        rest = drop-set-lt (count + 1) list count e (omega arith) ∙ sym (drop-drop 1 count list) ∙ ap (drop 1) h.rest ∙ drop-drop 1 count old;
         same =
             (λ i. read_on names (add-assoc-two i) (front i) left) ∙ sym (reads_on names (count + 2) (take count list) line left e is) ∙ h.same;
         sound = subst Sound (sym front) (grown e is);

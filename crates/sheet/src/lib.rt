@@ -1,5 +1,6 @@
 // A sheet of marked cells: what it means, and the run that it asks for.
 #![tactic(auto)]
+
 ghost use Rattle.std.specs.Prelude.{◌≡◌, ℕ, ◌+◌, ◌≤◌, [], ◌++◌, length, take, IfOk, OnOk};
 ghost use Rattle.writing.specs.Fronts.{over as over-front, Wrote};
 ghost use Rattle.sheet.specs.Format.{lines};

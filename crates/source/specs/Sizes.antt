@@ -1,5 +1,5 @@
 -- The size check: whether a plan may be so large, and whether memory is long enough for it.
-use Rattle.std.specs.Prelude.{ℕ, Bool, true, false, cond, ◌&&◌, Ok, Err, Result, nat_le}
+use Rattle.std.specs.Prelude.{ℕ, Bool, cond, ◌&&◌, Ok, Err, Result, nat_le}
 use Rattle.source.specs.declared.sizes.SizeRefusal.{SizeRefusal}
 use Rattle.source.specs.declared.sizes.SizeRefusal.TheVariants.{Extent, Memory}
 

@@ -1,7 +1,7 @@
 -- A mark, from the defined table before it to the defined table after: the open number is written, the seeds are walked from, and then every equation holds again.
 use Rattle.std.proofs.Common.{◌≡◌, ℕ, zero, suc, ◌+◌, ◌*◌, ◌<◌, ◌≤◌, Bool, true, false, cond, ◌&&◌, eqb, ltb, ◌≢◌, ◌⊎◌, List, [], ◌∷◌, ◌++◌, length, get_or, set, Some, None, sym, refl, ap, ◌∙◌, subst, inl, inr, arith}
 use Rattle.std.proofs.lemmas.Bool.{cases_Bool, cases_eq, and_parts, and_from, and_left, eqb-true, eq-eqb, both_ways, cond-true, cond-false}
-use Rattle.std.proofs.lemmas.List.{get_or-set_same, get_or-set_other, drop_set_lt, append-nil, set-get_or}
+use Rattle.std.proofs.lemmas.List.{get_or-set_same, get_or-set_other, drop-set-lt, append-nil, set-get_or}
 use Rattle.floor.specs.declared.Cell.{Cell}
 use Rattle.floor.specs.declared.Heading.{Heading}
 use Rattle.floor.specs.declared.Heading.TheVariants.{North, NorthEast, East, SouthEast, South, SouthWest, West, NorthWest}
@@ -198,7 +198,7 @@ module _ (rows cols : ℕ) (few : Few rows cols) where
       defined =
           defined_from e (λ k j. subst (λ n. n ≤ 1) (sym (m.kept.openings (k.row * cols + k.col))) (still_plain d k j))
           (m.leaves [] (subst (Mended rows cols after) (sym (append-nil (all_seeds (point c)))) (broken d)));
-      rest = m.kept.rest ∙ drop_set_lt (needed rows cols) a (begins cols c + 8) (cond b 1 0) (within_needed rows cols c 8 i (omega arith));
+      rest = m.kept.rest ∙ drop-set-lt (needed rows cols) a (begins cols c + 8) (cond b 1 0) (within_needed rows cols c 8 i (omega arith));
     }
 
     -- a mark that changes nothing

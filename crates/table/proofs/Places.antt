@@ -1,7 +1,7 @@
 -- Where the numbers of a cell lie: within the needed part, and apart from those of every other cell. So a write changes one label, or the openness of one cell, and nothing else.
 use Rattle.std.proofs.Common.{◌≡◌, ℕ, ◌+◌, ◌*◌, ◌/◌, ◌%◌, ◌<◌, ◌≤◌, true, false, cond, ◌&&◌, eqb, ltb, ◌≢◌, ◌⊎◌, List, length, get_or, set, ℤ, pos, negsuc, sym, refl, ap, ◌∙◌, subst, inl, inr, arith}
 use Rattle.std.proofs.lemmas.Bool.{cases_Bool, and_parts, and_from, and_left, ltb-true, lt-ltb}
-use Rattle.std.proofs.lemmas.List.{get_or-set_same, get_or-set_other, drop_set_lt}
+use Rattle.std.proofs.lemmas.List.{get_or-set_same, get_or-set_other, drop-set-lt}
 use Rattle.std.proofs.lemmas.Nat.{mul-add-lt, div-mul-add, mod-mul-add}
 use Rattle.floor.specs.declared.Cell.{Cell}
 use Rattle.floor.specs.declared.Heading.{Heading}
@@ -110,7 +110,7 @@ module _ (rows cols : ℕ) (numbers : List ℕ) (c : Cell) (i : Inside rows cols
   pub relabelled_put : (h : Heading) (v : ℕ) → Relabelled rows cols numbers (set numbers (begins cols c + number h) v)
   relabelled_put h v = record {
     openings = λ k. get_or-set_other numbers (begins cols c + number h) (9 * k + 8) v 0 (ninth k);
-    rest = drop_set_lt (needed rows cols) numbers (begins cols c + number h) v (within_needed rows cols c (number h) i (omega (arith, number_below h)));
+    rest = drop-set-lt (needed rows cols) numbers (begins cols c + number h) v (within_needed rows cols c (number h) i (omega (arith, number_below h)));
   }
     where
       ninth : (k : ℕ) → 9 * k + 8 ≢ begins cols c + number h

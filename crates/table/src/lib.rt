@@ -1,5 +1,6 @@
 // The table source: a plan with all its jumps worked out beforehand, on lent numbers, and mended at each mark.
 #![tactic(auto)]
+
 mod drawn;
 mod facts;
 mod layout;

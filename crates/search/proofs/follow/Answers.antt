@@ -19,8 +19,8 @@ sum-counts-requires g c =
       (fits c.args.from c.args.turn c.in-Some.edge (sym c.edge.ensures ∙ c.in-Some.is)).few,
     )
 
-pub overflow-add-counts : goal.overflow-add-counts
-overflow-add-counts g c =
+pub overflow_add-counts : goal.overflow_add-counts
+overflow_add-counts g c =
     let gr = c.args.graph.now in
     let fits = (g.G.Graph.sound gr).fits in
     let a = walk.bounded (g.G.Graph.size gr) (g.G.Graph.out gr) fits (g.R.Rate.order c.args.rate.now) (g.R.Rate.lawful c.args.rate.now) (marks c.args.entries.now) c.args.from c.args.base c.args.turn c.requires.standing.search c.args.from c.args.base c.requires.standing.search.here in
@@ -34,12 +34,12 @@ note-requires g c =
     let f = ((g.G.Graph.sound c.args.graph.now).fits c.args.from c.args.turn c.in-Some.edge (sym c.edge.ensures ∙ c.in-Some.is)).inside in
     record { within = (omega (arith, c.requires.sized), c.if-counts-gt-MOST_STEPS.false); queued = c.requires.standing.queued }
 
-pub returns-in-default : goal.returns-in-default
-returns-in-default g c =
+pub returns-in_default : goal.returns-in_default
+returns-in_default g c =
     let gr = c.args.graph.now in
     record {
       standing = record {
-        search = walk.no_edge (g.G.Graph.size gr) (g.G.Graph.out gr) (g.G.Graph.sound gr).fits (g.R.Rate.order c.args.rate.now) (g.R.Rate.lawful c.args.rate.now) (marks c.args.entries.now) c.args.from c.args.base c.args.turn c.requires.standing.search (sym c.edge.ensures ∙ c.in-default.is);
+        search = walk.no_edge (g.G.Graph.size gr) (g.G.Graph.out gr) (g.G.Graph.sound gr).fits (g.R.Rate.order c.args.rate.now) (g.R.Rate.lawful c.args.rate.now) (marks c.args.entries.now) c.args.from c.args.base c.args.turn c.requires.standing.search (sym c.edge.ensures ∙ c.in_default.is);
         queued = c.requires.standing.queued;
       };
       same = refl;

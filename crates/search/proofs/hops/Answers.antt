@@ -22,9 +22,9 @@ bounds-entries-here g c =
     let w : Walked out (marks es) p (Place c.in-Place.here) c.loop-at.count = subst (λ q. Walked out (marks es) p q c.loop-at.count) c.in-Place.is c.loop-at.invariant in
     written.standing_inside es (Place c.in-Place.here) w.base w.here
 
-pub overflow-add-count : goal.overflow-add-count
+pub overflow_add-count : goal.overflow_add-count
 unfolding finished
-overflow-add-count g c =
+overflow_add-count g c =
     let gr = c.args.graph.now in
     let b = back.bound (g.G.Graph.size gr) (g.G.Graph.out gr) (g.G.Graph.sound gr).fits (marks c.args.entries.now) c.requires.traced c.args.place c.requires.finished in
     let f = c.loop-at.invariant.few in
@@ -58,4 +58,4 @@ returns g c =
     let gr = c.args.graph.now in
     let s = marks c.args.entries.now in
     back.comes_home (g.G.Graph.size gr) (g.G.Graph.out gr) (g.G.Graph.sound gr).fits s c.requires.traced c.args.place c.requires.finished c.loop-at.count
-    (subst (λ q. Walked (g.G.Graph.out gr) s c.args.place q c.loop-at.count) c.in-default.is c.loop-at.invariant)
+    (subst (λ q. Walked (g.G.Graph.out gr) s c.args.place q c.loop-at.count) c.in_default.is c.loop-at.invariant)

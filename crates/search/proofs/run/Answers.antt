@@ -39,8 +39,8 @@ returns-then-len-eq0 g c =
     (outcome.idle order (length es) (marks es) (slots es) (subst (λ m. Queue order (length es) (marks es) (slots es) (take m heap)) c.if-len-eq0.true r.standing.queued.queue))
     (λ k f. l.invariant.1 k (sym (ap (λ h. h k) r.same) ∙ f))
 
-pub overflow-add-finished : goal.overflow-add-finished
-overflow-add-finished g c =
+pub overflow_add-finished : goal.overflow_add-finished
+overflow_add-finished g c =
     let l = c.loop-len in
     let r = c.follow_all-len.ensures in
     let f = c.finish_first-place.ensures in

@@ -24,7 +24,7 @@ room m es i d cells at next inside is fits on =
 pub loop-entry-init : goal.loop-entry-init
 loop-entry-init c = nothing c.args.cells.now c.args.at
 
-placed : (c : goal.After-cells·1) → c.loop-entry.next < length c.loop-entry.cells
+placed : (c : goal.After-cells-1) → c.loop-entry.next < length c.loop-entry.cells
 placed c =
     let inside = room c.args.mark c.args.entries.now c.loop-entry.entry-index (entry_at 0 0 Open 0) c.args.cells.now c.args.at c.loop-entry.next c.loop-entry-test.true (sym c.if-same_mark.ensures) c.requires c.loop-entry.invariant.on in
     let long = c.loop-entry.auto.cells in
@@ -33,11 +33,11 @@ placed c =
 pub bounds-cells-next : goal.bounds-cells-next
 bounds-cells-next c = placed c
 
-pub offset-bounds-cells-next : goal.offset-bounds-cells-next
-offset-bounds-cells-next c = let p = placed c in search rules
+pub offset_bounds-cells-next : goal.offset_bounds-cells-next
+offset_bounds-cells-next c = let p = placed c in search rules
 
-pub overflow-add-next : goal.overflow-add-next
-overflow-add-next c = let p = placed c in search rules
+pub overflow_add-next : goal.overflow_add-next
+overflow_add-next c = let p = placed c in search rules
 
 pub loop-entry-preserved : goal.loop-entry-preserved
 loop-entry-preserved c =

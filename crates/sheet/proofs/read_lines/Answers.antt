@@ -13,7 +13,7 @@ ahead : (c : goal.After-cut) → Sofar c.args.names (read_on c.args.names 2 [] (
 ahead c = subst (Sofar _ _ _ _ _ _) (ap (parted 10) c.in-Some.is ∙ c.cut.ensures.pieces) c.loop-rest.invariant
 
 -- the line's entry, as the loop goes on
-read : (c : goal.In-ok-entries) → added c.args.names (c.loop-rest.count + 2) (take c.loop-rest.count c.loop-rest.entries) c.cut.result.0.now ≡ Ok c.in_ok-entries.field-0
+read : (c : goal.In_ok-entries) → added c.args.names (c.loop-rest.count + 2) (take c.loop-rest.count c.loop-rest.entries) c.cut.result.0.now ≡ Ok c.in_ok-entries.field-0
 read c = sym (simp sub-zero at c.in_ok-entries.ensures)
 
 pub returns-in_err-entries : goal.returns-in_err-entries
@@ -33,11 +33,11 @@ loop-rest-preserved c = again (ahead (goal.at.loop-rest-preserved c).After-cut) 
 
 pub returns-then-not-has_panel : goal.returns-then-not-has_panel
 returns-then-not-has_panel c =
-    let done = subst (Sofar _ _ _ _ _ _) (ap (parted 10) c.in-default.is) c.loop-rest.invariant in
+    let done = subst (Sofar _ _ _ _ _ _) (ap (parted 10) c.in_default.is) c.loop-rest.invariant in
     record { answer = full done false (simp sub-zero at c.if-not-has_panel.ensures); list = written done; few = tt; accepted = tt }
 
 pub returns : goal.returns
 returns c =
-    let done = subst (Sofar _ _ _ _ _ _) (ap (parted 10) c.in-default.is) c.loop-rest.invariant in
+    let done = subst (Sofar _ _ _ _ _ _) (ap (parted 10) c.in_default.is) c.loop-rest.invariant in
     let one : true ≡ has_panel (take c.loop-rest.count c.loop-rest.entries) = simp sub-zero at c.if-not-has_panel.ensures in
     record { answer = full done true one; list = written done; few = at_most done; accepted = whole_sheet done (sym one) }

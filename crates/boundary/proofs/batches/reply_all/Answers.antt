@@ -1,7 +1,7 @@
 -- Each turn puts one query more.
 use Rattle.std.proofs.Common.{◌≡◌, ◌<◌, length, get_or, take, ◌∙◌, arith}
 use mathlib.Core.Path.{transport}
-use Rattle.std.proofs.lemmas.List.{drop_set_lt}
+use Rattle.std.proofs.lemmas.List.{drop-set-lt}
 use Rattle.boundary.specs.declared.numbers.Query.{Query}
 use Rattle.boundary.specs.Numbers.{action_in}
 use Rattle.boundary.specs.Batches.{after_queries, RightBy}
@@ -27,5 +27,5 @@ loop-i-preserved g c =
       c.reply_to.ensures.rate ∙ c.loop-i.invariant.0,
       plan_more p now (g.S.JumpSource.meaning c.reply_to.new.planner.source) qs i q turn there c.reply_to.ensures.plan,
       right_more order w v p qs c.loop-i.replies i x room c.loop-i.invariant.2 q turn right,
-      drop_set_lt _ _ _ _ turn ∙ c.loop-i.invariant.3,
+      drop-set-lt _ _ _ _ turn ∙ c.loop-i.invariant.3,
     )

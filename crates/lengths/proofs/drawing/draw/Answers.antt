@@ -1,7 +1,7 @@
 -- The questions have passed; the way back from the target is written, and what lies past it is left.
 use Rattle.std.proofs.Common.{◌≡◌, ℕ, ◌+◌, ◌*◌, ◌<◌, ◌≤◌, true, false, ltb, leb, List, [], ◌∷◌, ◌++◌, length, take, drop, set, None, sym, refl, ap, ◌∙◌, subst, arith, length-append, rules}
 use Rattle.std.proofs.lemmas.Nat.{mul-le}
-use Rattle.std.proofs.lemmas.List.{length-take-le, take_at, drop_at, take_more_set, drop_set_lt}
+use Rattle.std.proofs.lemmas.List.{length-take-le, take_at, drop_at, take_more_set, drop-set-lt}
 use Rattle.std.proofs.lemmas.Bool.{both_ways, and_parts, leb-true, ltb-true}
 use Rattle.floor.specs.declared.Cell.{Cell}
 use Rattle.floor.specs.declared.Counts.{Counts}
@@ -71,14 +71,14 @@ returns-then-is_same g c =
         told_cost order legal p s t (first_no (route_questions p s t (length c.args.entries.now) (length c.args.waiting.now) (length c.args.corners.now))) q n.counts best,
         subst (λ (xs : List Cell). Bent legal p s t n.counts xs) (sym (take_more_set c.args.corners.now 0 s fits)) (alone p s t n.counts order e best c.stay-measured.ensures.nothing.0),
       );
-      past = (omega arith, drop_set_lt 1 c.args.corners.now 0 s (omega arith));
+      past = (omega arith, drop-set-lt 1 c.args.corners.now 0 s (omega arith));
       searched = idle order p s t (take (places p) c.stay-measured.new.entries) e c.stay-measured.ensures.cleared n c.stay-measured.ensures.nothing.1;
       rest = (c.stay-measured.ensures.rest, refl);
       same = tt;
     }
 
-pub returns-in-default-reach : goal.returns-in-default-reach
-returns-in-default-reach g c =
+pub returns-in_default-reach : goal.returns-in_default-reach
+returns-in_default-reach g c =
     let order = g.R.Rate.order c.args.rate.now in
     let p = g.S.JumpSource.meaning c.args.source.now in
     let z = g.S.JumpSource.sized c.args.source.now in
@@ -89,7 +89,7 @@ returns-in-default-reach g c =
     record {
       told = (
         told_none order legal p s t (first_no (route_questions p s t (length c.args.entries.now) (length c.args.waiting.now) (length c.args.corners.now))) q
-            (nowhere order (g.R.Rate.lawful c.args.rate.now) p z s t ne c.in-default-reach.ensures.answered),
+            (nowhere order (g.R.Rate.lawful c.args.rate.now) p z s t ne c.in_default-reach.ensures.answered),
         refl,
       );
       past = (omega arith, refl);

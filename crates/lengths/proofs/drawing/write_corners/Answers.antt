@@ -1,6 +1,6 @@
 -- Each turn of the loop goes one place back on the way, which is there, since the place is finished.
 use Rattle.std.proofs.Common.{◌≡◌, ℕ, ◌+◌, ◌<◌, ◌≤◌, Bool, true, false, List, [], ◌∷◌, ◌++◌, length, get_or, take, drop, set, sym, refl, ap, ◌∙◌, subst, arith, length-set, rules}
-use Rattle.std.proofs.lemmas.List.{take_more_set, drop_set_lt, length-take-le}
+use Rattle.std.proofs.lemmas.List.{take_more_set, drop-set-lt, length-take-le}
 use Rattle.std.proofs.lemmas.Bool.{not-true, not-false}
 use Rattle.floor.specs.declared.Cell.{Cell}
 use Rattle.floor.specs.Tally.{steps}
@@ -15,7 +15,7 @@ use Rattle.places.specs.Leaps.{cell_of, heading_of}
 use Rattle.lengths.specs.Trail.{Trail, bend, Falls}
 use Rattle.lengths.proofs.Writing.{Writing, trail_done, back_home, back_on, set_out, room, bends_at, goes_straight, turned_round}
 use Rattle.lengths.proofs.drawing.write_corners.Goals as goal
-use Rattle.lengths.proofs.drawing.write_corners.Goals.{then_Turns, else-turns}
+use Rattle.lengths.proofs.drawing.write_corners.Goals.{then-turns, else-turns}
 
 -- a finished place's entry lies in the list
 inside : (es : List Entry) (k : ℕ) (r : Reached) → marks es k ≡ Done r → k < length es
@@ -84,12 +84,12 @@ loop-from-preserved c =
           let w : Writing cols s (marks es) cs last at n old xs = c.loop-from.invariant.1 cs t in
           let b : Before cols s es cs last at k n old xs w = before cols s es c.requires.falls cs last at k n old xs w (sym c.loop-from.invariant.0 ∙ c.in-Place.is) in
           elim c.if-turns.branch [
-            | then_Turns v ↦
+            | then-turns v ↦
                 let p = c.requires.way in
                 let l : n < length xs = room cols s (marks es) p.0 last old at n xs (simp length-set p.2) (c.loop-from.invariant.1 p.0 p.1) in
                 subst (λ (z : List Cell). Writing cols s (marks es) cs last k c.if-turns.count old z) (sym v.corners-is)
-                (subst (λ (m : ℕ). Writing cols s (marks es) cs last k m old (set xs n v.cell-of-then-turns.result)) (sym v.count-is)
-                (subst (λ (x : Cell). Writing cols s (marks es) cs last k (n + 1) old (set xs n x)) (sym v.cell-of-then-turns.ensures)
+                (subst (λ (m : ℕ). Writing cols s (marks es) cs last k m old (set xs n v.cell_of-then-turns.result)) (sym v.count-is)
+                (subst (λ (x : Cell). Writing cols s (marks es) cs last k (n + 1) old (set xs n x)) (sym v.cell_of-then-turns.ensures)
                 (bends_at cols s (marks es) cs last old at k n xs l w b.cells b.trail b.bent (not-true (same (heading_of k) (heading_of at)) (sym v.if-turns.ensures)))))
             | else-turns v ↦
                 subst (λ (z : List Cell). Writing cols s (marks es) cs last k c.if-turns.count old z) (sym v.corners-is)
@@ -112,16 +112,16 @@ bounds-corners-count-2 c =
     room c.args.cols c.args.start (marks c.args.entries.now) p.0 (cell_of c.args.cols c.args.place) old c.loop-from.at c.loop-from.count c.loop-from.corners
     (simp length-set p.2) (c.loop-from.invariant.1 p.0 p.1)
 
-pub slice-bounds-reverse-end : goal.slice-bounds-reverse-end
-slice-bounds-reverse-end c =
+pub slice_bounds-reverse-end : goal.slice_bounds-reverse-end
+slice_bounds-reverse-end c =
     let p = c.requires.way in
     let old = set c.args.corners.now 0 c.cell_of.result in
     let l = room c.args.cols c.args.start (marks c.args.entries.now) p.0 (cell_of c.args.cols c.args.place) old c.loop-from.at c.loop-from.count c.loop-from.corners
     (simp length-set p.2) (c.loop-from.invariant.1 p.0 p.1) in
     simp length-set (omega arith)
 
-pub slice-bounds-reverse-end-2 : goal.slice-bounds-reverse-end-2
-slice-bounds-reverse-end-2 c =
+pub slice_bounds-reverse-end-2 : goal.slice_bounds-reverse-end-2
+slice_bounds-reverse-end-2 c =
     let p = c.requires.way in
     let xs = set c.loop-from.corners c.loop-from.count c.args.start in
     let old = set c.args.corners.now 0 c.cell_of.result in
@@ -144,6 +144,6 @@ returns c cs t =
     let w : Writing cols s (marks es) cs last at n old xs = c.loop-from.invariant.1 cs t in
     let r = trail_done w.trail in
     let here : way (get_or es at blank) ≡ r.0 = done_way es at r.0 r.1 in
-    let f : r.0.from ≡ Start = sym (ap (λ (x : Reached). x.from) here) ∙ sym c.loop-from.invariant.0 ∙ c.in-default.is in
+    let f : r.0.from ≡ Start = sym (ap (λ (x : Reached). x.from) here) ∙ sym c.loop-from.invariant.0 ∙ c.in_default.is in
     let h = turned_round cols s (marks es) cs last old at n xs l w (back_home r.0 w.trail r.1 f) in
-    (h.0, ap (λ z. z ++ drop (n + 1) (set xs n s)) c.reverse.ensures.after ∙ h.1 ∙ ap (λ z. (cs ++ last ∷ []) ++ z) (drop_set_lt (n + 1) c.args.corners.now 0 c.cell_of.result (omega arith)))
+    (h.0, ap (λ z. z ++ drop (n + 1) (set xs n s)) c.reverse.ensures.after ∙ h.1 ∙ ap (λ z. (cs ++ last ∷ []) ++ z) (drop-set-lt (n + 1) c.args.corners.now 0 c.cell_of.result (omega arith)))

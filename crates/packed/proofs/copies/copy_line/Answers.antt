@@ -18,8 +18,8 @@ returns-in-1 c =
     let at : c.word_of-from.result ≡ word_of c.args.half c.args.line 0 + 0 = omega (arith, c.word_of-from.ensures) in
     copied_one c.args.words.now c.args.half c.args.line c.if-line-half.false c.requires.short _ (sym c.line_words.ensures ∙ c.in-1.is) (ap (λ n. get_or c.args.words.now n 0) at)
 
-pub returns-in-default : goal.returns-in-default
-returns-in-default c =
+pub returns-in_default : goal.returns-in_default
+returns-in_default c =
     let at : c.word_of-from.result ≡ word_of c.args.half c.args.line 0 + 0 = omega (arith, c.word_of-from.ensures) in
     let many : 2 ≤ c.line_words.result = omega arith in
     let two : 2 ≤ line_words c.args.half.long = subst (λ n. 2 ≤ n) c.line_words.ensures many in

@@ -14,13 +14,13 @@ returns-else-cell-target c =
 
 pub returns-then-cell-target-2 : goal.returns-then-cell-target-2
 returns-then-cell-target-2 c =
-    sighted_down _ _ _ _ _ c.drift_down-down.ensures c.drift_across-across.ensures _ c.in-default-Still.is-1 c.if-cell-target-2.true c.steps_between-rows.ensures
+    sighted_down _ _ _ _ _ c.drift_down-down.ensures c.drift_across-across.ensures _ c.in_default-Still.is-1 c.if-cell-target-2.true c.steps_between-rows.ensures
 
 pub returns-else-cell-target-2 : goal.returns-else-cell-target-2
 returns-else-cell-target-2 c =
-    sighted_not_down _ _ _ _ _ c.drift_down-down.ensures c.drift_across-across.ensures c.in-default-Still.is-1 c.if-cell-target-2.false
+    sighted_not_down _ _ _ _ _ c.drift_down-down.ensures c.drift_across-across.ensures c.in_default-Still.is-1 c.if-cell-target-2.false
 
-pub returns-in-default : goal.returns-in-default
-returns-in-default c =
+pub returns-in_default : goal.returns-in_default
+returns-in_default c =
     subst (Sighted (point c.args.target) c.args.heading (point c.args.cell)) (sym c.nearer.ensures)
-    (sighted_nearer _ _ _ _ _ c.drift_down-down.ensures c.drift_across-across.ensures _ _ c.in-default.not-Still-0 c.in-default.not-Still-1 c.steps_between-rows.ensures c.steps_between-cols.ensures)
+    (sighted_nearer _ _ _ _ _ c.drift_down-down.ensures c.drift_across-across.ensures _ _ c.in_default.not-Still-0 c.in_default.not-Still-1 c.steps_between-rows.ensures c.steps_between-cols.ensures)

@@ -6,8 +6,8 @@ use Rattle.sheet.proofs.text.without_end.Goals as goal
 pub returns-in-10 : goal.returns-in-10
 returns-in-10 c = last_feed c.args.text.now (omega arith)
 
-pub returns-in-default : goal.returns-in-default
-returns-in-default c = nothing_ended c.args.text.now (omega (arith, ltb-true))
+pub returns-in_default : goal.returns-in_default
+returns-in_default c = nothing_ended c.args.text.now (omega (arith, ltb-true))
 
-pub returns-in-default·2 : goal.returns-in-default·2
-returns-in-default·2 c = last_other c.args.text.now (λ is. omega arith)
+pub returns-in_default-2 : goal.returns-in_default-2
+returns-in_default-2 c = last_other c.args.text.now (λ is. omega arith)

@@ -1,10 +1,9 @@
-use Rattle.std.proofs.Common.{◌≡◌, ℕ, ◌+◌, ◌<◌, Bool, length, get_or, set, sym, ap, ◌∙◌, subst, arith, length-set}
+use Rattle.std.proofs.Common.{◌≡◌, ℕ, ◌+◌, ◌<◌, get_or, set, sym, ap, ◌∙◌, subst, arith, length-set}
 use Rattle.std.proofs.lemmas.List.Edits.{fill_by_more}
 use Rattle.floor.specs.Jumps.{jump_of}
 use Rattle.floor.proofs.Jumps.{numbered_short}
 use Rattle.source.specs.Labels.{label_of, said_by}
 use Rattle.source.proofs.LabelLaws.{label_says}
-use Rattle.source.proofs.labelling.labels.Given as given
 use Rattle.source.proofs.labelling.labels.Goals as goal
 
 pub loop-heading-preserved : goal.loop-heading-preserved

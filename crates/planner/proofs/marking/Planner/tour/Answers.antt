@@ -1,6 +1,6 @@
 -- Each turn measures the next leg; a refused one, or the end of the cells, ends the loop.
 use Rattle.std.proofs.Common.{◌≡◌, ◌+◌, ◌*◌, ◌<◌, ◌≤◌, List, [], ◌∷◌, ◌++◌, length, get_or, take, drop, set, None, Ok, Err, sym, refl, ◌∙◌, subst, arith}
-use Rattle.std.proofs.lemmas.List.{take_more_set, drop_set_lt}
+use Rattle.std.proofs.lemmas.List.{take_more_set, drop-set-lt}
 use Rattle.floor.specs.declared.Counts.{Counts}
 use Rattle.floor.specs.Tally.{plus, steps}
 use Rattle.floor.specs.Plans.{legal}
@@ -23,7 +23,7 @@ add-total-requires g c =
     let order = g.R.Rate.order c.args.self.now.rate in
     let p = g.S.JumpSource.meaning c.args.self.now.source in
     let n = c.in-Ok.measured.counts in
-    let q : first_no (loop_questions c.args.cells.now (length c.args.legs.now)) ≡ None = sym c.in-default.ensures in
+    let q : first_no (loop_questions c.args.cells.now (length c.args.legs.now)) ≡ None = sym c.in_default.ensures in
     let few = (few_cells c.args.cells.now (length c.args.legs.now) q).0 in
     let before : steps c.loop-i.total ≤ longest * c.loop-i.i = c.loop-i.invariant.0.few in
     let more : steps n ≤ longest = few_steps order (g.R.Rate.lawful c.args.self.now.rate) p (g.S.JumpSource.sized c.args.self.now.source) c.leg_ends.result.0 c.leg_ends.result.1 (length c.loop-i.entries) (length c.loop-i.waiting) n c.in-Ok.ensures.told in
@@ -41,7 +41,7 @@ loop-i-preserved g c =
     let s = c.leg_ends.result.0 in
     let t = c.leg_ends.result.1 in
     let n = c.in-Ok.measured.counts in
-    let q : first_no (loop_questions cells (length c.args.legs.now)) ≡ None = sym c.in-default.ensures in
+    let q : first_no (loop_questions cells (length c.args.legs.now)) ≡ None = sym c.in_default.ensures in
     let fits = (few_cells cells (length c.args.legs.now) q).1 in
     let room : i < length c.loop-i.legs = omega (arith, c.loop-i.auto.legs, c.loop-i-test.true) in
     let told : LengthTold order legal p s t w v (Ok n) =
@@ -53,7 +53,7 @@ loop-i-preserved g c =
     let front : take (i + 1) (set c.loop-i.legs i n) ≡ take i c.loop-i.legs ++ n ∷ [] = take_more_set c.loop-i.legs i n room in (
       subst (λ (ns : List Counts). Underway order p cells w v (i + 1) ns c.add-total.result) (sym front)
           (subst (λ (m : Counts). Underway order p cells w v (i + 1) (take i c.loop-i.legs ++ n ∷ []) m) (sym sum) u),
-      drop_set_lt (i + 1) c.loop-i.legs i n (omega arith) ∙ drop_one_more i c.loop-i.legs c.args.legs.now c.loop-i.invariant.1,
+      drop-set-lt (i + 1) c.loop-i.legs i n (omega arith) ∙ drop_one_more i c.loop-i.legs c.args.legs.now c.loop-i.invariant.1,
       c.in-Ok.ensures.rest.0 ∙ c.loop-i.invariant.2,
       c.in-Ok.ensures.rest.1 ∙ c.loop-i.invariant.3,
       λ e. absurd (omega arith),
@@ -71,7 +71,7 @@ returns-in-Err g c =
     let t = c.leg_ends.result.1 in
     let e = c.in-Err.refusal in
     let front = take i c.loop-i.legs in
-    let q : first_no (loop_questions cells (length c.args.legs.now)) ≡ None = sym c.in-default.ensures in
+    let q : first_no (loop_questions cells (length c.args.legs.now)) ≡ None = sym c.in_default.ensures in
     let fits = (few_cells cells (length c.args.legs.now) q).1 in
     let room : i ≤ length c.loop-i.legs = omega (arith, c.loop-i.auto.legs, c.loop-i-test.true) in
     let told : LengthTold order legal p s t w v (Err e) =
@@ -101,7 +101,7 @@ returns g c =
     let v = length c.args.waiting.now in
     let i = c.loop-i.i in
     let front = take i c.loop-i.legs in
-    let q : first_no (loop_questions cells (length c.args.legs.now)) ≡ None = sym c.in-default.ensures in
+    let q : first_no (loop_questions cells (length c.args.legs.now)) ≡ None = sym c.in_default.ensures in
     let fits = (few_cells cells (length c.args.legs.now) q).1 in
     let room : i ≤ length c.loop-i.legs = omega (arith, c.loop-i.auto.legs, c.loop-i.auto.i-end) in
     let past : length cells ≤ i = omega arith in

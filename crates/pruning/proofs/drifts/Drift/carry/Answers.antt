@@ -13,11 +13,11 @@ still c = subst (λ d. Apart d c.args.steps c.args.from c.requires.0) c.in-Still
 forth : (c : goal.In-Forth) → Apart Forth c.args.steps c.args.from c.requires.0
 forth c = subst (λ d. Apart d c.args.steps c.args.from c.requires.0) c.in-Forth.is (apart c.args.self _ _ _ (sym c.requires.2))
 
-pub overflow-sub-result : goal.overflow-sub-result
-overflow-sub-result c = omega (arith, back c)
+pub overflow_sub-result : goal.overflow_sub-result
+overflow_sub-result c = omega (arith, back c)
 
-pub overflow-add-result : goal.overflow-add-result
-overflow-add-result c = omega (arith, forth c, c.requires.1)
+pub overflow_add-result : goal.overflow_add-result
+overflow_add-result c = omega (arith, forth c, c.requires.1)
 
 pub returns-in-Back : goal.returns-in-Back
 returns-in-Back c = let e : c.args.from - c.args.steps ≡ c.requires.0 = omega (arith, back c) in ap pos e ∙ c.requires.2

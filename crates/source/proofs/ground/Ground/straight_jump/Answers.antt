@@ -5,8 +5,8 @@ use Rattle.source.proofs.Walks.{stops_by, goes_on, fewer_left, ends_live, ends_d
 use Rattle.source.proofs.ground.Ground.straight_jump.Given as given
 use Rattle.source.proofs.ground.Ground.straight_jump.Goals as goal
 
-pub overflow-add-steps : goal.overflow-add-steps
-overflow-add-steps g c = omega (arith, few_steps _ _ _ (g.Self.Ground.small c.args.self.now) _ _ _ c.loop-next.invariant)
+pub overflow_add-steps : goal.overflow_add-steps
+overflow_add-steps g c = omega (arith, few_steps _ _ _ (g.Self.Ground.small c.args.self.now) _ _ _ c.loop-next.invariant)
 
 pub returns-then-makes_stop : goal.returns-then-makes_stop
 returns-then-makes_stop g c =
@@ -26,4 +26,4 @@ pub loop-next-preserved : goal.loop-next-preserved
 loop-next-preserved g c = goes_on _ _ _ _ _ _ _ c.loop-next.invariant c.in-Some.ensures.0 (unmarked g c) c.in-Some.ensures.1
 
 pub returns : goal.returns
-returns g c = ends_dead _ _ _ _ _ _ c.loop-next.invariant c.in-default.ensures
+returns g c = ends_dead _ _ _ _ _ _ c.loop-next.invariant c.in_default.ensures

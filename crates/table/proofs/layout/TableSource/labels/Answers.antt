@@ -16,12 +16,12 @@ loop-heading-preserved c = (
   fill_by_more (λ h. get_or c.args.self.now.numbers.now (c.in-Some.place + h) 0) c.loop-heading.all c.loop-heading.heading 0 (omega arith) c.loop-heading.invariant.1,
 )
 
-pub returns-in-default : goal.returns-in-default
-returns-in-default c =
+pub returns-in_default : goal.returns-in_default
+returns-in_default c =
     let s = c.args.self.now in
     record {
       len = refl;
       made = λ h b.
           get_or-replicate 8 h 32768 0 b ∙
-          label_outside s.rows s.cols s.few s.numbers.now (record { labels = s.labelled; openings = s.flagged }) c.args.cell c.in-default.ensures h b;
+          label_outside s.rows s.cols s.few s.numbers.now (record { labels = s.labelled; openings = s.flagged }) c.args.cell c.in_default.ensures h b;
     }

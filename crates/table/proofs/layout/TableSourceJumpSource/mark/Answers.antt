@@ -6,11 +6,11 @@ use Rattle.table.specs.Layout.{plan_of, needed}
 use Rattle.table.proofs.Places.{inside_to}
 use Rattle.table.proofs.layout.TableSourceJumpSource.mark.Goals as goal
 
-pub invariant-of-self : goal.invariant-of-self
-invariant-of-self c =
+pub invariant_of-self : goal.invariant_of-self
+invariant_of-self c =
     let s = c.replace-rows.result in
     let m = c.mark.ensures in
-    (s.few, (search rules, (m.defined.labels, (m.defined.openings, tt))))
+    record { few = s.few; fits = search rules; labelled = m.defined.labels; flagged = m.defined.openings }
 
 -- what was taken out is what the source held
 pub returns : goal.returns

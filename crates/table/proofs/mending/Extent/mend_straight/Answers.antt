@@ -33,7 +33,7 @@ loop-numbers-smaller c =
     c.opposite.ensures c.in-Some.ensures
 
 pub loop-numbers-preserved : goal.loop-numbers-preserved
-loop-numbers-preserved c = walk_on _ _ _ _ _ _ _ _ _ (turned (goal.at.loop-numbers-preserved c).Joined-put-right) c.opposite.ensures c.in-Some.ensures
+loop-numbers-preserved c = walk_on _ _ _ _ _ _ _ _ _ (turned (goal.at.loop-numbers-preserved c).Joined-put_right) c.opposite.ensures c.in-Some.ensures
 
 pub returns-in-None : goal.returns-in-None
-returns-in-None c = walk_off _ _ c.args.self.few _ _ _ _ _ _ (turned (goal.at.returns-in-None c).Joined-put-right) c.opposite.ensures c.in-None.ensures
+returns-in-None c = walk_off _ _ c.args.self.few _ _ _ _ _ _ (turned (goal.at.returns-in-None c).Joined-put_right) c.opposite.ensures c.in-None.ensures

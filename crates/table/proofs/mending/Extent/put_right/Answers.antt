@@ -2,8 +2,8 @@ use Rattle.std.proofs.Common.{refl, arith}
 use Rattle.table.proofs.Places.{within_needed, number_below, off_cell, off_holds}
 use Rattle.table.proofs.mending.Extent.put_right.Goals as goal
 
-pub returns-in-default : goal.returns-in-default
-returns-in-default c = (refl, off_holds _ _ _ _ _ (off_cell _ _ c.args.cell c.in-default.ensures))
+pub returns-in_default : goal.returns-in_default
+returns-in_default c = (refl, off_holds _ _ _ _ _ (off_cell _ _ c.args.cell c.in_default.ensures))
 
 pub bounds-numbers-place : goal.bounds-numbers-place
 bounds-numbers-place c =
