@@ -1,5 +1,6 @@
 // The planner for C and C++: queries and replies in numbers, answered in batches over memory that the caller lends.
 #![tactic(auto)]
+
 mod batches;
 mod exports;
 mod numbers;

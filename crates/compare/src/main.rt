@@ -1,5 +1,6 @@
 // Compares the planner and its sources with plain answers, worked out cell by cell, on many floors, and prints how many differ.
 #![tactic(auto)]
+
 mod asking;
 mod courses;
 mod dice;
@@ -41,10 +42,10 @@ fn plan(rt: &HostRuntime) -> anyhow::Result<Course> {
         return Ok(DEFAULT);
     };
     let (Some(rounds), None) = (words.next(), words.next()) else {
-        return Err(USAGE.into());
+        return Err(anyhow!("{USAGE}"));
     };
     let (Ok(seed), Ok(rounds)) = (seed.parse::<u64>(), rounds.parse::<u32>()) else {
-        return Err(USAGE.into());
+        return Err(anyhow!("{USAGE}"));
     };
     Ok(Course { seed, rounds })
 }

@@ -2,8 +2,8 @@
 use crate::edges::{put_edges, put_figures};
 use crate::tally::Line;
 use crate::visits::Extent;
-use octets::ByteSource;
 use floor::Cell;
+use octets::ByteSource;
 use packed::PackedSource;
 use planner::Planner;
 use rate::Rate;

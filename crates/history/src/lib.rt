@@ -1,5 +1,6 @@
 // What holds of every list of calls: the promise over whole runs.
 #![tactic(auto)]
+
 mod calls;
 mod runs;
 mod steps;

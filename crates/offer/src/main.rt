@@ -1,5 +1,6 @@
 // Reads a sheet from standard input, and prints the listing of the cheapest loop through its stops, or why there is none.
 #![tactic(auto)]
+
 ghost use Rattle.std.specs.Prelude.{◌≤◌, length, IfOk};
 
 use anyhow::anyhow;

@@ -1,5 +1,6 @@
 // Jumps on packed halls with a few closed cells, of widths that fill words, and one more; and the words of a small plan.
 #![tactic(auto)]
+
 use floor::Cell;
 use packed::PackedSource;
 use source::JumpSource;

@@ -1,5 +1,6 @@
 // Reads a sheet from standard input, and prints what it holds and how its floor looks from the panel, or why it is refused.
 #![tactic(auto)]
+
 ghost use Rattle.std.specs.Prelude.{◌≤◌, length, IfOk};
 
 mod look;

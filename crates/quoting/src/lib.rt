@@ -1,5 +1,6 @@
 // From a sheet's bytes to what is printed for it: the listing of the cheapest loop through its stops, or why there is none.
 #![tactic(auto)]
+
 mod faults;
 mod loops;
 mod quotes;

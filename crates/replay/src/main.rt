@@ -1,11 +1,12 @@
 // Reads calls from standard input, puts them to two planners over different sources, and prints the answers and whether the two agree.
 #![tactic(auto)]
+
 mod script;
 mod telling;
 
 use anyhow::anyhow;
-use octets::ByteSource;
 use history::{Answer, Call, replay_both};
+use octets::ByteSource;
 use packed::PackedSource;
 use rates::exact::ExactRate;
 use std::alloc::{AllocError, Global};

@@ -1,5 +1,6 @@
 // Sheets at the edges of the rules: each refusal, the largest sheets that pass, and what is printed.
 #![tactic(auto)]
+
 use floor::Cell;
 use sheet::{Entry, Mark};
 

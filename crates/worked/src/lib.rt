@@ -1,5 +1,6 @@
 // Small plans worked by hand: one theorem says that what a reader finds there is what the contracts promise.
 #![tactic(auto)]
+
 ghost use Rattle.std.specs.List.{AllByRecursion as All};
 ghost use Rattle.worked.specs.Examples.{Holds};
 ghost use Rattle.worked.specs.Table.{table};

@@ -31,7 +31,7 @@ returns g c =
     let zp = g.S.JumpSource.sized c.args.first in
     let zq = g.T.JumpSource.sized c.args.second in
     record {
-      cheapest-at-every-moment = (cheapest order law p zp calls xs one, cheapest order law q zq calls ys two);
-      the-same-for-any-two-sources = λ r k. same_two order law p zp calls xs ys one (from_closed order (closed q.rows q.cols) (closed p.rows p.cols) calls ys (λ i. closed (sym r i) (sym k i)) two);
-      more-open-cells-never-cost-more = (more_open order law p zp calls xs one, more_open order law q zq calls ys two);
+      cheapest_at_every_moment = (cheapest order law p zp calls xs one, cheapest order law q zq calls ys two);
+      the_same_for_any_two_sources = λ r k. same_two order law p zp calls xs ys one (from_closed order (closed q.rows q.cols) (closed p.rows p.cols) calls ys (λ i. closed (sym r i) (sym k i)) two);
+      more_open_cells_never_cost_more = (more_open order law p zp calls xs one, more_open order law q zq calls ys two);
     }

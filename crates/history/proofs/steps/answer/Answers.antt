@@ -10,19 +10,19 @@ use Rattle.history.specs.Records.{asked}
 use Rattle.history.proofs.Loops.{whole_loop}
 use Rattle.history.proofs.steps.answer.Goals as goal
 
-pub returns-in_ok-answer-2 : goal.returns-in_ok-answer-2
-returns-in_ok-answer-2 g c =
+pub returns-in_ok-answer-in-Loop : goal.returns-in_ok-answer-in-Loop
+returns-in_ok-answer-in-Loop g c =
     let order = g.R.Rate.order c.args.planner.now.rate in
     let law = g.R.Rate.lawful c.args.planner.now.rate in
     let p = g.S.JumpSource.meaning c.args.planner.now.source in
     let z = g.S.JumpSource.sized c.args.planner.now.source in
-    let a = c.in_ok-answer-2.answer in
-    let ns = vec_items c.in_ok-answer-2.legs in
+    let a = c.in_ok-answer-in-Loop.answer in
+    let ns = vec_items c.in_ok-answer-in-Loop.legs in
     let cells = vec_items c.in-Loop.cells in
     let w = c.in-Loop.entries in
     let v = c.in-Loop.waiting in
     let l = c.in-Loop.legs in
-    let told : LoopTold order legal p cells w v l ns a = subst (λ (xs : List Cell). LoopTold order legal p xs w v l ns a) c.as_slice.ensures.value c.in_ok-answer-2.ensures in
+    let told : LoopTold order legal p cells w v l ns a = subst (λ (xs : List Cell). LoopTold order legal p xs w v l ns a) c.as_slice.ensures.value c.in_ok-answer-in-Loop.ensures in
     record {
       right = subst (λ (k : Call). Right order legal p (asked k) (toured a ns)) (sym c.in-Loop.is) (told, whole_loop order legal p w v law legal_fair z cells l ns a told);
       plan = search rules;

@@ -26,7 +26,7 @@ returns g c =
     let full : (with_items c.in_ok-counts.counts c.tour-answer.new.legs).items ≡ c.tour-answer.new.legs = with_items_is c.in_ok-counts.counts c.tour-answer.new.legs many in
     let cut : vec_items c.truncate.new.self ≡ take c.legs_measured.result (with_items c.in_ok-counts.counts c.tour-answer.new.legs).items = c.truncate.ensures.items in
     let kept : vec_items c.truncate.new.self ≡ take c.legs_measured.result c.tour-answer.new.legs = cut ∙ ap (take c.legs_measured.result) full in
-    let front : take (measured_legs r (length cells)) c.tour-answer.new.legs ≡ t.decreases =
+    let front : take (measured_legs r (length cells)) c.tour-answer.new.legs ≡ t.measured =
     measured_front order legal p (length c.as_mut_slice.result.now) (length c.as_mut_slice-2.result.now) cells c.as_mut_slice-3.result.now c.tour-answer.new.legs r t in
-    let e : vec_items c.truncate.new.self ≡ t.decreases = kept ∙ ap (λ m. take m c.tour-answer.new.legs) n ∙ front in
+    let e : vec_items c.truncate.new.self ≡ t.measured = kept ∙ ap (λ m. take m c.tour-answer.new.legs) n ∙ front in
     transport (λ i. LoopTold order legal p cells (w i) (v i) (l i) (sym e i) r) t.told

@@ -11,6 +11,6 @@ returns-in-Ok c =
     let on = shown.answered in
     let long = c.list.auto.buffer in
     record {
-      quoted = record { amounts = shown.amounts; measured = shown.decreases; printed = record { long = shown.answered; page = shown.written }; answered = refl };
+      quoted = record { amounts = shown.amounts; measured = shown.measured; printed = record { long = shown.answered; page = shown.written }; answered = refl };
       fits = omega arith;
     }

@@ -25,18 +25,18 @@ front piece old list n e long = ap (take (n - 0)) e ∙ take_at piece (drop (len
 
 -- a loop that was answered, through the stops at the front of a list
 module _ (p : Plan) (z : Sized p) (run stops : List Cell) (same : stops ≡ run) (before after : List Counts) (r : Result Counts LoopRefusal) (t : Toured exact legal p stops 2048 2048 before after r) where
-  told : LoopTold exact legal p run 2048 2048 (length before) t.decreases r
-  told = subst (λ (cells : List Cell). LoopTold exact legal p cells 2048 2048 (length before) t.decreases r) same t.told
+  told : LoopTold exact legal p run 2048 2048 (length before) t.measured r
+  told = subst (λ (cells : List Cell). LoopTold exact legal p cells 2048 2048 (length before) t.measured r) same t.told
 
   module _ (n : Counts) (is : r ≡ Ok n) where
-    answered : Whole p run t.decreases n
-    answered = whole p z run 2048 2048 (length before) t.decreases n (subst (LoopTold exact legal p run 2048 2048 (length before) t.decreases) is told)
+    answered : Whole p run t.measured n
+    answered = whole p z run 2048 2048 (length before) t.measured n (subst (LoopTold exact legal p run 2048 2048 (length before) t.measured) is told)
 
-    written : (count : ℕ) → count ≡ length run → take (count - 0) after ≡ t.decreases
+    written : (count : ℕ) → count ≡ length run → take (count - 0) after ≡ t.measured
     written count long =
-        let many = as_many p (legs run) t.decreases answered.cheapest in
+        let many = as_many p (legs run) t.measured answered.cheapest in
         let legs = legs_length run in
-        front t.decreases before after count t.written (omega arith)
+        front t.measured before after count t.written (omega arith)
 
 pub list_legs-requires : goal.list_legs-requires
 list_legs-requires c =
