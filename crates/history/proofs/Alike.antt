@@ -1,20 +1,18 @@
 -- Two right answers to one call in one plan are alike: refusals are decided by the questions, and two cheapest routes cost the same.
-use Rattle.std.proofs.Common.{◌≡◌, ℕ, zero, suc, ◌+◌, ◌<◌, ◌≤◌, Bool, true, false, cond, ◌⊎◌, List, [], ◌∷◌, length, Some, None, Ok, Err, Option, Result, sym, refl, ap, ◌∙◌, subst, inl, inr, arith}
+use Rattle.std.proofs.Common.{◌≡◌, ℕ, ◌+◌, ◌≤◌, Bool, true, false, ◌⊎◌, List, [], ◌∷◌, length, Some, None, Ok, Err, Option, Result, sym, ap, ◌∙◌, subst, inl, inr, arith}
 use Rattle.floor.specs.declared.Cell.{Cell}
 use Rattle.floor.specs.declared.Counts.{Counts}
 use Rattle.floor.specs.Plans.{Plan, Sized}
 use Rattle.floor.specs.Routes.{Laying, Fair}
 use Rattle.rate.specs.declared.Comparison.{Comparison}
 use Rattle.rate.specs.declared.Comparison.TheVariants.{Same}
-use Rattle.rate.specs.Laws.{turned, at_least, AtLeast, Lawful}
-use Rattle.cheapest.specs.Cheapest.{Cheapest, Leg, legs, total, Tour, CheapestLegs}
+use Rattle.rate.specs.Laws.{at_least, Lawful}
+use Rattle.cheapest.specs.Cheapest.{Leg, legs, total, Tour, CheapestLegs}
 use Rattle.cheapest.proofs.Rivals.{rivals, both_at_least}
 use Rattle.lengths.specs.declared.answers.Refusal.{Refusal}
-use Rattle.lengths.specs.declared.answers.Refusal.TheVariants.{NoRoute}
 use Rattle.planner.specs.declared.answers.LoopRefusal.{LoopRefusal}
 use Rattle.planner.specs.declared.answers.LoopRefusal.TheVariants as loop
 use Rattle.lengths.specs.Questions.{first_no, length_questions}
-use Rattle.planner.specs.Loops.{loop_questions}
 use Rattle.lengths.specs.Answers.{CostTold}
 use Rattle.planner.specs.Loops.{Looped, LoopTold}
 use Rattle.history.specs.Calls.{Asked, to_open, to_close, a_length, a_route, a_loop, Told, changed, cost, drawn, toured, Changed, Costed, Drawn, Toured, Right, SameCost, SameLegs, Alike}

@@ -1,15 +1,13 @@
 -- A loop that got a total measured every leg, each by a cheapest route; so no route for the whole loop is cheaper.
-use Rattle.std.proofs.Common.{◌≡◌, ℕ, zero, suc, ◌+◌, ◌<◌, ◌≤◌, Bool, true, false, cond, ◌&&◌, leb, ◌⊎◌, List, [], ◌∷◌, length, Some, None, Ok, Err, Option, Result, sym, refl, ap, ◌∙◌, subst, inl, inr, arith}
-use Rattle.std.proofs.lemmas.Bool.{cases_Bool, both_ways, and_parts, leb-true}
+use Rattle.std.proofs.Common.{◌≡◌, ℕ, suc, ◌+◌, ◌≤◌, Bool, true, false, cond, ◌&&◌, leb, ◌⊎◌, List, [], ◌∷◌, length, Some, None, Ok, Err, Option, Result, sym, refl, ap, subst, inl, inr, arith}
+use Rattle.std.proofs.lemmas.Bool.{and_parts, leb-true}
 use Rattle.floor.specs.declared.Cell.{Cell}
 use Rattle.floor.specs.declared.Counts.{Counts}
-use Rattle.floor.specs.Plane.{point}
-use Rattle.floor.specs.Plans.{Plan, Sized, opens}
-use Rattle.floor.specs.Routes.{Laying, Laid, Fair}
+use Rattle.floor.specs.Plans.{Plan, Sized}
+use Rattle.floor.specs.Routes.{Laying, Fair}
 use Rattle.rate.specs.declared.Comparison.{Comparison}
 use Rattle.rate.specs.Laws.{AtLeast, Lawful}
 use Rattle.cheapest.specs.Cheapest.{Cheapest, Leg, onward, legs, total, Tour, CheapestLegs}
-use Rattle.cheapest.specs.Claims.{Rivals}
 use Rattle.cheapest.proofs.Rivals.{rivals}
 use Rattle.lengths.specs.declared.answers.Refusal.{Refusal}
 use Rattle.planner.specs.declared.answers.LoopRefusal.{LoopRefusal}

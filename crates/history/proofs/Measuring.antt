@@ -1,16 +1,16 @@
 -- How many legs a loop measured can be read off its answer.
-use Rattle.std.proofs.Common.{◌≡◌, ℕ, suc, ◌+◌, ◌-◌, Bool, true, false, cond, ◌&&◌, leb, ◌⊎◌, List, [], ◌∷◌, ◌++◌, length, take, drop, Some, None, Ok, Err, Option, Result, sym, refl, ap, ◌∙◌, subst, inl, inr, arith}
+use Rattle.std.proofs.Common.{◌≡◌, ℕ, ◌+◌, Bool, true, false, cond, ◌&&◌, leb, List, [], ◌∷◌, length, take, drop, Some, None, Ok, Err, Result, sym, refl, ap, ◌∙◌, inl, inr, arith}
 use Rattle.std.proofs.lemmas.List.{take_at}
 use Rattle.floor.specs.declared.Cell.{Cell}
 use Rattle.floor.specs.declared.Counts.{Counts}
 use Rattle.floor.specs.Plans.{Plan}
 use Rattle.floor.specs.Routes.{Laying}
 use Rattle.rate.specs.declared.Comparison.{Comparison}
-use Rattle.cheapest.specs.Cheapest.{Leg, legs, total}
+use Rattle.cheapest.specs.Cheapest.{Leg, legs}
 use Rattle.lengths.specs.Questions.{first_no}
 use Rattle.planner.specs.declared.answers.LoopRefusal.{LoopRefusal}
 use Rattle.planner.specs.declared.answers.LoopRefusal.TheVariants as loop
-use Rattle.planner.specs.Loops.{loop_questions, Looped, LoopBy, LoopTold}
+use Rattle.planner.specs.Loops.{loop_questions, Looped, LoopTold}
 use Rattle.planner.specs.Touring.{Toured}
 use Rattle.history.specs.Records.{measured_legs}
 use Rattle.history.proofs.Loops.{legs_length, loop_by}

@@ -1,21 +1,20 @@
 -- More open cells never cost more: the questions that were answered yes still are, and every route is still one.
-use Rattle.std.proofs.Common.{◌≡◌, ℕ, zero, suc, ◌+◌, ◌*◌, ◌<◌, ◌≤◌, Bool, true, false, cond, ◌&&◌, ltb, leb, ◌⊎◌, List, [], ◌∷◌, ◌++◌, length, Some, None, Ok, Err, Option, Result, sym, refl, ap, ◌∙◌, subst, inl, inr, arith}
+use Rattle.std.proofs.Common.{◌≡◌, ℕ, ◌+◌, ◌*◌, Bool, true, false, cond, ◌&&◌, ltb, leb, List, [], ◌∷◌, Some, None, Ok, Err, Option, Result, sym, refl, ap, ◌∙◌, subst, inl, inr, arith}
 use Rattle.floor.specs.declared.Cell.{Cell}
 use Rattle.floor.specs.declared.Counts.{Counts}
 use Rattle.floor.specs.Plane.{point}
-use Rattle.floor.specs.Plans.{Plan, Sized, inside, is_open, opens}
-use Rattle.floor.specs.Routes.{Laying, Laid, Grows, Fair}
+use Rattle.floor.specs.Plans.{Plan, Sized, inside, opens}
+use Rattle.floor.specs.Routes.{Laying, Grows, Fair}
 use Rattle.floor.proofs.Walks.{grown}
 use Rattle.rate.specs.declared.Comparison.{Comparison}
 use Rattle.rate.specs.Laws.{AtLeast, Lawful}
-use Rattle.cheapest.specs.Cheapest.{Cheapest, Leg, legs, total, Tour, CheapestLegs}
+use Rattle.cheapest.specs.Cheapest.{Leg, legs, total, Tour, CheapestLegs}
 use Rattle.cheapest.proofs.Rivals.{rivals}
 use Rattle.lengths.specs.declared.answers.Refusal.{Refusal}
 use Rattle.planner.specs.declared.answers.LoopRefusal.{LoopRefusal}
-use Rattle.lengths.specs.Questions.{Question, ask, first_no, length_questions, route_questions}
-use Rattle.planner.specs.Loops.{loop_questions}
+use Rattle.lengths.specs.Questions.{Question, first_no, length_questions, route_questions}
 use Rattle.lengths.specs.Answers.{CostTold}
-use Rattle.planner.specs.Loops.{Looped, LoopBy, LoopTold}
+use Rattle.planner.specs.Loops.{Looped, LoopTold}
 use Rattle.history.specs.Calls.{Asked, to_open, to_close, a_length, a_route, a_loop, Told, changed, cost, drawn, toured, Changed, Costed, Drawn, Toured, Right, length_in}
 use Rattle.history.proofs.Loops.{yes_first, all_legs, loop_by, few_legs}
 

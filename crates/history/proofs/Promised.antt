@@ -1,15 +1,14 @@
 -- The three promises over whole runs follow from one: each answer is right in the plan of its moment.
-use Rattle.std.proofs.Common.{◌≡◌, ℕ, ◌<◌, Bool, true, false, cond, ◌&&◌, eqb, ltb, ◌⊎◌, List, [], ◌∷◌, length, get_or, take, Some, sym, refl, ap, ◌∙◌, subst, inl, inr, arith}
-use Rattle.std.proofs.lemmas.Bool.{cases_Bool, both_ways, and_parts, eqb-true}
+use Rattle.std.proofs.Common.{◌≡◌, ℕ, ◌<◌, Bool, true, false, cond, ◌&&◌, eqb, ltb, List, [], ◌∷◌, length, get_or, take, sym, refl, ◌∙◌, subst, arith}
+use Rattle.std.proofs.lemmas.Bool.{both_ways, and_parts, eqb-true}
 use Rattle.floor.specs.declared.Cell.{Cell}
 use Rattle.floor.specs.declared.Counts.{Counts}
-use Rattle.floor.specs.Plans.{Plan, Sized, inside, opens, closed, marked, legal}
-use Rattle.floor.specs.Routes.{Grows}
+use Rattle.floor.specs.Plans.{Plan, Sized, inside, closed, marked, legal}
 use Rattle.floor.proofs.Legal.{legal_fair}
 use Rattle.rate.specs.declared.Comparison.{Comparison}
-use Rattle.rate.specs.Laws.{Lawful, AtLeast}
+use Rattle.rate.specs.Laws.{Lawful}
 use Rattle.planner.specs.Loops.{after}
-use Rattle.history.specs.Calls.{Asked, to_open, to_close, a_length, a_route, a_loop, Told, State, fresh, next, after_all, Right, Alike, length_in}
+use Rattle.history.specs.Calls.{Asked, to_open, to_close, a_length, a_route, a_loop, Told, State, fresh, next, after_all, Right}
 use Rattle.history.specs.Promise.{plan_at, AnsweredInTurn, CheapestAtEveryMoment, MoreOpenCellsNeverCostMore, TheSameForAnyTwoSources}
 use Rattle.history.proofs.Turns.{each_answer, as_many}
 use Rattle.history.proofs.Alike.{right_alike}

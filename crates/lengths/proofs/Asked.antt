@@ -1,5 +1,5 @@
 -- Where no question is answered no, each is answered yes; and what is then told is a cheapest route, or that there is none.
-use Rattle.std.proofs.Common.{◌≡◌, ℕ, ◌+◌, ◌*◌, ◌≤◌, Bool, true, false, cond, ◌&&◌, leb, List, [], ◌∷◌, Some, None, Ok, Err, Option, Result, sym, refl, ap, ◌∙◌, subst, arith}
+use Rattle.std.proofs.Common.{◌≡◌, ℕ, ◌≤◌, Bool, true, false, cond, ◌&&◌, leb, List, ◌∷◌, Some, None, Ok, Err, Option, sym, refl, subst, arith}
 use Rattle.std.proofs.lemmas.Bool.{and_parts, leb-true}
 use Rattle.floor.specs.declared.Cell.{Cell}
 use Rattle.floor.specs.declared.Counts.{Counts}
@@ -10,7 +10,7 @@ use Rattle.rate.specs.declared.Comparison.{Comparison}
 use Rattle.cheapest.specs.Cheapest.{Cheapest}
 use Rattle.lengths.specs.declared.answers.Refusal.{Refusal}
 use Rattle.lengths.specs.declared.answers.Refusal.TheVariants.{Outside, TargetOutside, Closed, TargetClosed, ShortWork, NoRoute}
-use Rattle.lengths.specs.Questions.{Question, ask, first_no, places, length_questions}
+use Rattle.lengths.specs.Questions.{Question, ask, first_no, places}
 use Rattle.lengths.specs.Answers.{CostTold}
 
 pub yes_first : {A : Type 0} (q : Question A) (qs : List (Question A)) → first_no (q ∷ qs) ≡ None → (q.yes_to ≡ true) × (first_no qs ≡ None)

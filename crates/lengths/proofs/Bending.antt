@@ -1,6 +1,5 @@
 -- The corners of a route that grows at its end: a run of the last heading moves the last corner on, a run of another adds one.
-use Rattle.std.proofs.Common.{◌≡◌, ℕ, zero, suc, Bool, true, false, cond, ◌⊎◌, List, [], ◌∷◌, ◌++◌, replicate, sym, refl, ap, ◌∙◌, subst, inl, inr}
-use Rattle.std.proofs.lemmas.Bool.{cases_Bool}
+use Rattle.std.proofs.Common.{◌≡◌, ℕ, zero, suc, Bool, true, false, cond, List, [], ◌∷◌, ◌++◌, replicate, refl, ap, ◌∙◌}
 use Rattle.floor.specs.declared.Heading.{Heading}
 use Rattle.floor.specs.Plane.{Point, same, step}
 use Rattle.floor.specs.Routes.{end, bends, corners}

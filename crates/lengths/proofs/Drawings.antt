@@ -1,13 +1,13 @@
 -- After a search the way back is there, and turned round it is a cheapest route, with no more corners than the plan has cells.
-use Rattle.std.proofs.Common.{◌≡◌, ℕ, suc, ◌+◌, ◌*◌, ◌<◌, ◌≤◌, Bool, true, false, not, ◌&&◌, ltb, List, [], ◌∷◌, ◌++◌, map, length, take, drop, sym, refl, ap, ◌∙◌, subst, arith, length-append}
+use Rattle.std.proofs.Common.{◌≡◌, ℕ, suc, ◌+◌, ◌*◌, ◌<◌, ◌≤◌, true, not, ltb, List, [], ◌∷◌, ◌++◌, length, take, sym, ap, ◌∙◌, subst, arith, length-append}
 use Rattle.std.proofs.lemmas.List.{length-map}
 use Rattle.std.proofs.lemmas.Bool.{and_parts, ltb-true}
 use Rattle.floor.specs.declared.Cell.{Cell}
 use Rattle.floor.specs.declared.Counts.{Counts}
 use Rattle.floor.specs.Tally.{steps}
-use Rattle.floor.specs.Plane.{Point, point}
+use Rattle.floor.specs.Plane.{point}
 use Rattle.floor.specs.Plans.{Plan, Sized, is_open, legal}
-use Rattle.floor.specs.Routes.{tally, corners}
+use Rattle.floor.specs.Routes.{corners}
 use Rattle.floor.proofs.Legal.{legal_fair}
 use Rattle.floor.proofs.Runs.{by_runs}
 use Rattle.rate.specs.declared.Comparison.{Comparison}
@@ -15,7 +15,6 @@ use Rattle.rate.specs.Laws.{Lawful}
 use Rattle.cheapest.specs.Cheapest.{Cheapest}
 use Rattle.cheapest.proofs.Rivals.{rivals}
 use Rattle.search.specs.declared.entry.Entry.{Entry}
-use Rattle.search.specs.declared.entry.Reached.{Reached}
 use Rattle.search.specs.Mark.{marks, reached}
 use Rattle.search.specs.Search as search
 use Rattle.places.specs.Leaps.{cell_of, out, same_cell, goal}

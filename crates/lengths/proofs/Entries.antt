@@ -1,28 +1,25 @@
 -- What the entries of a search say of places by cell and heading.
-use Rattle.std.proofs.Common.{◌≡◌, ℕ, ◌+◌, ◌*◌, ◌/◌, ◌%◌, ◌<◌, ◌≤◌, Bool, true, false, not, ◌&&◌, List, length, get_or, sym, refl, ap, ◌∙◌, subst, arith}
+use Rattle.std.proofs.Common.{◌≡◌, ℕ, ◌*◌, ◌/◌, ◌%◌, ◌<◌, ◌≤◌, true, false, not, List, length, get_or, sym, refl, ap, ◌∙◌, subst, arith}
 use Rattle.std.proofs.lemmas.Bool.{both_ways, and_parts, ltb-true}
 use Rattle.floor.specs.declared.Cell.{Cell}
 use Rattle.floor.specs.declared.Counts.{Counts}
 use Rattle.floor.specs.declared.Heading.{Heading}
-use Rattle.floor.specs.Plane.{Point, point}
-use Rattle.floor.specs.Plans.{Plan, Sized, inside, opens, is_open}
+use Rattle.floor.specs.Plane.{point}
+use Rattle.floor.specs.Plans.{Plan, inside, is_open}
 use Rattle.floor.specs.Places.{place, place_number}
 use Rattle.floor.specs.Places as floor
 use Rattle.rate.specs.declared.Comparison.{Comparison}
 use Rattle.rate.specs.declared.Comparison.TheVariants.{Cheaper}
-use Rattle.rate.specs.Laws.{AtLeast}
 use Rattle.pruning.specs.Claims.{Stands}
 use Rattle.pruning.proofs.Pruning.{chains_stand_on_open_cells}
-use Rattle.search.specs.declared.graph.Position.{Position}
-use Rattle.search.specs.declared.graph.Position.TheVariants.{Start, Place}
 use Rattle.search.specs.declared.entry.Entry.{Entry}
 use Rattle.search.specs.declared.entry.Reached.{Reached}
 use Rattle.search.specs.declared.entry.State.{State}
 use Rattle.search.specs.declared.entry.State.TheVariants.{Unseen, Waiting, Finished}
-use Rattle.search.specs.Mark.{Mark, Unmet, Waits, Done, is_done, mark, marked, way, blank, marks, count, finished, finishes}
+use Rattle.search.specs.Mark.{Unmet, Done, is_done, mark, marked, way, blank, marks, count, finished, finishes}
 use Rattle.search.specs.Chain as chain
 use Rattle.search.specs.Search as search
-use Rattle.places.specs.Leaps.{cell_of, heading_of, stands, out, goal, same_cell}
+use Rattle.places.specs.Leaps.{cell_of, heading_of, out, goal, same_cell}
 use Rattle.places.proofs.Numbers.{cell_back, heading_back, number_back, position_known, cell_known, same_cell_is}
 use Rattle.places.proofs.Chains.{to_floor, Numbered, from_floor}
 use Rattle.lengths.specs.declared.answers.Measured.{Measured}

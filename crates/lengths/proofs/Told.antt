@@ -1,24 +1,23 @@
 -- What a search finds is a cheapest route, and where it finds nothing there is none: every route has a chain to the target that is never dearer.
-use Rattle.std.proofs.Common.{◌≡◌, ℕ, ◌<◌, ◌≤◌, Bool, true, false, not, ◌&&◌, List, [], sym, refl, ap, ◌∙◌, subst, arith}
-use Rattle.std.proofs.lemmas.Bool.{both_ways, and_parts, and_from, not_from_false}
+use Rattle.std.proofs.Common.{◌≡◌, ℕ, Bool, true, false, not, [], refl, subst, arith}
+use Rattle.std.proofs.lemmas.Bool.{and_parts, and_from}
 use Rattle.floor.specs.declared.Cell.{Cell}
 use Rattle.floor.specs.declared.Counts.{Counts}
 use Rattle.floor.specs.Tally.{none}
-use Rattle.floor.specs.Plane.{Point, point}
+use Rattle.floor.specs.Plane.{point}
 use Rattle.floor.specs.Plans.{Plan, Sized, opens, is_open, legal}
 use Rattle.floor.specs.Routes.{Laid, Route}
 use Rattle.floor.specs.Places.{place}
 use Rattle.floor.specs.Places as floor
 use Rattle.rate.specs.declared.Comparison.{Comparison}
-use Rattle.rate.specs.Laws.{Lawful, AtLeast}
+use Rattle.rate.specs.Laws.{Lawful}
 use Rattle.rate.proofs.Derived.{facts}
 use Rattle.cheapest.specs.Cheapest.{Cheapest}
 use Rattle.pruning.proofs.Pruning.{every_chain_is_a_route}
-use Rattle.search.specs.declared.graph.Position.TheVariants.{Place}
 use Rattle.search.specs.Mark.{Mark}
 use Rattle.search.specs.Search as search
 use Rattle.places.specs.Leaps.{cell_of, heading_of, out, same_cell, goal}
-use Rattle.places.proofs.Numbers.{same_cell_is, same_cell_from}
+use Rattle.places.proofs.Numbers.{same_cell_is}
 use Rattle.places.proofs.Chains.{to_floor}
 use Rattle.places.proofs.Sound.{Direct, direct}
 

@@ -1,5 +1,5 @@
 -- The way back from a finished place, as the corners of a route: turned round it is a route with just the counts of the place.
-use Rattle.std.proofs.Common.{◌≡◌, ℕ, zero, suc, ◌+◌, ◌-◌, ◌<◌, ◌≤◌, Bool, true, false, cond, ◌⊎◌, List, [], ◌∷◌, ◌++◌, map, length, replicate, Some, sym, refl, ap, ◌∙◌, subst, inl, inr, not-suc-le-zero, arith}
+use Rattle.std.proofs.Common.{◌≡◌, ℕ, zero, suc, ◌-◌, ◌<◌, ◌≤◌, Bool, true, false, cond, List, [], ◌∷◌, ◌++◌, map, replicate, Some, sym, refl, ap, ◌∙◌, subst, not-suc-le-zero, arith}
 use Rattle.std.proofs.lemmas.List.{map-append}
 use Rattle.floor.specs.declared.Cell.{Cell}
 use Rattle.floor.specs.declared.Counts.{Counts}
@@ -7,13 +7,12 @@ use Rattle.floor.specs.declared.Heading.{Heading}
 use Rattle.floor.specs.Tally.{none, plus, steps}
 use Rattle.floor.specs.Plane.{Point, point, same, step}
 use Rattle.floor.specs.Plans.{Plan, opens, legal}
-use Rattle.floor.specs.Routes.{end, tally, corners, Walk}
+use Rattle.floor.specs.Routes.{end, tally, Walk}
 use Rattle.floor.specs.Jumps.{walk}
 use Rattle.floor.specs.Places.{spot, many, successor}
 use Rattle.floor.proofs.Jumps.{jump_legal}
 use Rattle.floor.proofs.Walks.{end-++, tally-++, walk-++, none_plus}
 use Rattle.floor.proofs.Runs.{tally_run}
-use Rattle.pruning.specs.Claims.{LegalLeap}
 use Rattle.pruning.proofs.Sound.{run_walks, run_end}
 use Rattle.search.specs.declared.graph.Position.{Position}
 use Rattle.search.specs.declared.graph.Position.TheVariants.{Start, Place}
@@ -21,8 +20,7 @@ use Rattle.search.specs.declared.graph.Edge.{Edge}
 use Rattle.search.specs.declared.entry.Reached.{Reached}
 use Rattle.search.specs.Mark.{Mark, Done, standing}
 use Rattle.search.specs.Search.{Made, Traced}
-use Rattle.places.specs.Leaps.{cell_of, heading_of, stands, leap, out}
-use Rattle.places.proofs.Numbers.{cell_known}
+use Rattle.places.specs.Leaps.{cell_of, heading_of, stands, out}
 use Rattle.places.proofs.Sound.{many_steps}
 use Rattle.places.proofs.Chains.{Leapt, leapt, Lands, lands}
 use Rattle.lengths.specs.Trail.{Trail, direct, onward, bend, Falls}

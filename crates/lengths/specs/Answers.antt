@@ -3,7 +3,7 @@ use Rattle.std.specs.Prelude.{◌≡◌, ℕ, List, [], map, Some, None, Ok, Err
 use Rattle.floor.specs.declared.Cell.{Cell}
 use Rattle.floor.specs.declared.Counts.{Counts}
 use Rattle.floor.specs.declared.Heading.{Heading}
-use Rattle.floor.specs.Plane.{Point, point}
+use Rattle.floor.specs.Plane.{point}
 use Rattle.floor.specs.Plans.{Plan, opens}
 use Rattle.floor.specs.Routes.{end, tally, corners, Laying, Walk, Laid}
 use Rattle.rate.specs.declared.Comparison.{Comparison}

@@ -1,9 +1,9 @@
 -- What a length leaves in its work entries: entry n is place n's.
-use Rattle.std.specs.Prelude.{◌≡◌, ℕ, ◌*◌, ◌/◌, ◌%◌, ◌≤◌, Bool, true, List, ◌≢◌, slice_index_or}
+use Rattle.std.specs.Prelude.{◌≡◌, ℕ, ◌*◌, ◌/◌, ◌%◌, ◌≤◌, true, List, ◌≢◌, slice_index_or}
 use Rattle.floor.specs.declared.Cell.{Cell}
 use Rattle.floor.specs.declared.Counts.{Counts}
 use Rattle.floor.specs.declared.Heading.{Heading}
-use Rattle.floor.specs.Plane.{Point, point}
+use Rattle.floor.specs.Plane.{point}
 use Rattle.floor.specs.Plans.{Plan, inside, is_open}
 use Rattle.floor.specs.Places.{place, place_number, Chain}
 use Rattle.rate.specs.declared.Comparison.{Comparison}

@@ -1,5 +1,5 @@
 -- The way back from a finished place to the start: the cells at which it bends, the start first, the place's own cell left out.
-use Rattle.std.specs.Prelude.{◌≡◌, ℕ, ◌<◌, Bool, cond, List, [], ◌∷◌, ◌++◌}
+use Rattle.std.specs.Prelude.{◌≡◌, ℕ, ◌<◌, cond, List, [], ◌∷◌, ◌++◌}
 use Rattle.floor.specs.declared.Cell.{Cell}
 use Rattle.floor.specs.Tally.{steps}
 use Rattle.floor.specs.Plane.{same}

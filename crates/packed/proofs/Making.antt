@@ -1,5 +1,5 @@
 -- A new plan: words of set bits are closed everywhere, in both halves and past the end of each line.
-use Rattle.std.proofs.Common.{◌≡◌, ℕ, ◌+◌, ◌-◌, ◌*◌, ◌/◌, ◌%◌, ◌^◌, ◌<◌, ◌≤◌, min, Bool, true, false, cond, not, ◌&&◌, ltb, leb, ◌⊎◌, List, length, get_or, drop, is_err, Ok, Err, Result, sym, refl, ap, ◌∙◌, subst, inl, inr, true≢false, arith, MatchResult}
+use Rattle.std.proofs.Common.{◌≡◌, ℕ, ◌+◌, ◌-◌, ◌*◌, ◌%◌, ◌^◌, ◌<◌, ◌≤◌, min, Bool, true, false, cond, not, ◌&&◌, ltb, leb, List, length, get_or, drop, is_err, Ok, Err, Result, sym, ap, ◌∙◌, subst, inl, inr, true≢false, arith, MatchResult}
 use Rattle.std.proofs.lemmas.Bool.{cases_Bool, and_parts, ltb-true, leb-true}
 use Rattle.floor.specs.Plans.{closed}
 use Rattle.source.specs.declared.sizes.SizeRefusal.{SizeRefusal}

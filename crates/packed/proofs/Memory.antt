@@ -1,5 +1,5 @@
 -- What memory holds after a plan was made on it and marked: size, layout and meaning come along from the making, mark by mark.
-use Rattle.std.proofs.Common.{◌≡◌, ℕ, List, length, drop, Ok, Err, Result, sym, refl, ap, ◌∙◌, subst, MatchResult}
+use Rattle.std.proofs.Common.{◌≡◌, ℕ, List, length, drop, Ok, Err, Result, sym, ap, ◌∙◌, subst, MatchResult}
 use Rattle.floor.specs.declared.Cell.{Cell}
 use Rattle.floor.specs.Plans.{Plan, closed}
 use Rattle.source.specs.declared.sizes.SizeRefusal.{SizeRefusal}

@@ -1,9 +1,9 @@
 -- A scan along a line is the straight jump on the plane: position by position the line shows what the cells are, and the first position where
 -- the scan ends is the first step that is not legal or leads to a stop. Said once for the four straight headings.
-use Rattle.std.proofs.Common.{◌≡◌, ℕ, zero, suc, ◌+◌, ◌-◌, ◌*◌, ◌<◌, ◌≤◌, Bool, true, false, cond, not, ◌&&◌, ◌||◌, ltb, ◌⊎◌, List, ℤ, pos, negsuc, ◌+ℤ◌, sym, refl, ap, ◌∙◌, subst, inl, inr, arith}
+use Rattle.std.proofs.Common.{◌≡◌, ℕ, zero, suc, ◌+◌, ◌-◌, ◌*◌, ◌<◌, ◌≤◌, Bool, true, false, cond, not, ◌&&◌, ◌||◌, ltb, List, ℤ, pos, negsuc, ◌+ℤ◌, sym, refl, ap, ◌∙◌, subst, inl, inr, arith}
 use mathlib.Core.Bool.{not-not}
 use borrow.Author.Differences.{ints}
-use Rattle.std.proofs.lemmas.Bool.{true≢false, cases_Bool, cases_lt, and_parts, and_from, and_cases, and_left, and_right, or_cases, or_parts, or_from, both_ways, not-true, not-false, ltb-true, ltb-false, lt-ltb, le-ltb}
+use Rattle.std.proofs.lemmas.Bool.{true≢false, cases_Bool, cases_lt, and_parts, or_parts, or_from, both_ways, not-false, ltb-true, lt-ltb, le-ltb}
 use Rattle.floor.specs.declared.Cell.{Cell}
 use Rattle.floor.specs.declared.Heading.{Heading}
 use Rattle.floor.specs.declared.Heading.TheVariants.{North, NorthEast, East, SouthEast, South, SouthWest, West, NorthWest}
@@ -13,7 +13,7 @@ use Rattle.floor.specs.Plane.{Point, point, turn, diagonal, step}
 use Rattle.floor.specs.Plans.{Plan, open_at, opens, is_open, legal}
 use Rattle.floor.specs.Jumps.{stop, stops}
 use Rattle.floor.proofs.Plane.{other, at}
-use Rattle.floor.proofs.Legal.{legal_parts, legal_from}
+use Rattle.floor.proofs.Legal.{legal_from}
 use Rattle.floor.proofs.Jumps.{scanned, straight_mark, scan_blocked, scan_found, scan_further, closed_stays}
 use Rattle.source.specs.Ground.{straight_from}
 use Rattle.source.proofs.Walks.{no_end}

@@ -1,5 +1,5 @@
 -- How words stand for a plan: twice over, first by rows and then by columns, a bit for each cell, set where the cell is closed.
-use Rattle.std.specs.Prelude.{◌≡◌, ℕ, ◌+◌, ◌-◌, ◌*◌, ◌/◌, ◌%◌, ◌^◌, ◌<◌, ◌≤◌, Bool, true, false, not, ◌&&◌, List, length, drop, MatchResult, nat_lt, slice_index}
+use Rattle.std.specs.Prelude.{◌≡◌, ℕ, ◌+◌, ◌-◌, ◌*◌, ◌/◌, ◌%◌, ◌^◌, ◌<◌, ◌≤◌, Bool, true, not, ◌&&◌, List, length, drop, MatchResult, nat_lt, slice_index}
 use Rattle.floor.specs.Plans.{Plan, closed}
 use Rattle.floor.specs.declared.Cell.{Cell}
 use Rattle.source.specs.Sizes.{size_answer}

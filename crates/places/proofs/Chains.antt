@@ -1,10 +1,10 @@
 -- The chains of the graph are the chains of successors.
-use Rattle.std.proofs.Common.{◌≡◌, ℕ, ◌+◌, ◌*◌, ◌<◌, ◌≤◌, Bool, true, false, cond, Some, None, Option, sym, refl, ap, ◌∙◌, subst, arith}
+use Rattle.std.proofs.Common.{◌≡◌, ℕ, ◌*◌, ◌<◌, Bool, true, false, cond, Some, None, Option, sym, refl, ap, ◌∙◌, subst, arith}
 use Rattle.std.specs.Option.{option_map}
 use Rattle.floor.specs.declared.Cell.{Cell}
 use Rattle.floor.specs.declared.Counts.{Counts}
 use Rattle.floor.specs.declared.Heading.{Heading}
-use Rattle.floor.specs.Tally.{none, plus}
+use Rattle.floor.specs.Tally.{plus}
 use Rattle.floor.specs.Plane.{Point, point, number, heading}
 use Rattle.floor.specs.Plans.{Plan, opens, legal}
 use Rattle.floor.specs.Routes.{Laid}

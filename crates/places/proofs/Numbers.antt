@@ -1,12 +1,12 @@
 -- A place is known by its number, and an open point by its cell.
-use Rattle.std.proofs.Common.{◌≡◌, ℕ, zero, suc, ◌+◌, ◌*◌, ◌/◌, ◌%◌, ◌<◌, ◌≤◌, Bool, true, false, ◌&&◌, ℤ, pos, negsuc, Some, None, Option, sym, refl, ap, ◌∙◌, subst, mul_comm, arith}
+use Rattle.std.proofs.Common.{◌≡◌, ℕ, zero, suc, ◌+◌, ◌*◌, ◌/◌, ◌%◌, ◌<◌, true, false, ℤ, pos, negsuc, Some, None, sym, refl, ap, ◌∙◌, mul_comm, arith}
 use Rattle.std.proofs.lemmas.Nat.{div-mul-add, mod-mul-add, div-add-mod', mod_below, mul-le}
 use Rattle.std.proofs.lemmas.Bool.{both_ways, and_parts, and_from, ltb-true, eqb-true, eq-eqb}
 use Rattle.floor.specs.declared.Cell.{Cell}
 use Rattle.floor.specs.declared.Heading.{Heading}
 use Rattle.floor.specs.declared.Heading.TheVariants.{North}
 use Rattle.floor.specs.Plane.{Point, point, number, heading}
-use Rattle.floor.specs.Plans.{Plan, inside, open_at, opens}
+use Rattle.floor.specs.Plans.{Plan, open_at, opens}
 use Rattle.floor.specs.Places.{Position, start, place, spot, place_number}
 use Rattle.floor.proofs.Plane.{each, at}
 use Rattle.search.specs.declared.graph.Position as graph

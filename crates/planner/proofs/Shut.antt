@@ -1,7 +1,6 @@
 -- Closing cell after cell, and row after row, leaves no cell open.
-use Rattle.std.proofs.Common.{◌≡◌, ℕ, ◌+◌, ◌<◌, ◌≤◌, Bool, true, false, cond, ◌&&◌, eqb, ltb, ◌⊎◌, sym, refl, ap, ◌∙◌, inl, inr, arith}
+use Rattle.std.proofs.Common.{◌≡◌, ℕ, ◌+◌, Bool, false, arith}
 use Rattle.std.proofs.lemmas.Bool.Decides.{nat_tests}
-use Rattle.std.proofs.lemmas.Bool.{cases_lt, lt-ltb, le-ltb, and_right, and_left}
 use Rattle.floor.specs.Plans.{Plan, Sized, closed, marked}
 use Rattle.planner.specs.Shutting.{shut_row, shut_rows}
 

@@ -1,5 +1,5 @@
 -- Plans on the way to having no open cell.
-use Rattle.std.specs.Prelude.{ℕ, Bool, false, cond, ◌&&◌, ◌==◌, nat_lt}
+use Rattle.std.specs.Prelude.{ℕ, false, cond, ◌&&◌, ◌==◌, nat_lt}
 use Rattle.floor.specs.Plans.{Plan}
 
 -- the plan with the first cells of a row closed

@@ -5,7 +5,7 @@ use Rattle.floor.specs.declared.Counts.{Counts}
 use Rattle.floor.specs.declared.Heading.{Heading}
 use Rattle.floor.specs.declared.Side.{Side}
 use Rattle.floor.specs.declared.Side.TheVariants.{Left, Right}
-use Rattle.floor.specs.Tally.{counts, none, plus}
+use Rattle.floor.specs.Tally.{none, plus}
 use Rattle.floor.specs.Plane.{Point, same, turn, diagonal, step}
 use Rattle.floor.specs.Plans.{Plan, opens, legal}
 use Rattle.floor.specs.Routes.{end, one, tally, Walk}

@@ -1,5 +1,5 @@
 -- What a jump sees of the target, and how its successor follows from the successor one step on.
-use Rattle.std.proofs.Common.{◌≡◌, ℕ, zero, suc, ◌+◌, ◌<◌, Bool, true, false, cond, ◌&&◌, ◌||◌, ℤ, pos, negsuc, Some, None, Option, sym, refl, ap, ◌∙◌, subst, inl, inr, not-suc-le-zero, arith}
+use Rattle.std.proofs.Common.{◌≡◌, ℕ, zero, suc, ◌<◌, Bool, true, false, cond, ◌&&◌, ◌||◌, ℤ, pos, negsuc, Some, None, Option, sym, refl, ap, ◌∙◌, subst, inl, inr, not-suc-le-zero, arith}
 use lib.IntN.{+ℤ_idr}
 use Rattle.std.proofs.lemmas.Bool.{cases_order, both_ways, and_from, or_left, or_right, cond-true, eq-eqb, true≢false}
 use Rattle.floor.specs.declared.Heading.{Heading}

@@ -1,11 +1,11 @@
 -- The laws of the format: of pieces by induction on the text, of values by cases.
-use Rattle.std.proofs.Common.{◌≡◌, ℕ, zero, suc, ◌+◌, ◌-◌, ◌/◌, ◌%◌, ◌<◌, ◌≤◌, Bool, true, false, cond, not, ◌&&◌, eqb, leb, List, [], ◌∷◌, ◌++◌, length, Some, None, Ok, Err, codes, decimal, Option, Result, sym, refl, ap, ◌∙◌, subst, ⊎_elim, arith}
+use Rattle.std.proofs.Common.{◌≡◌, ℕ, ◌+◌, ◌-◌, ◌/◌, ◌%◌, ◌<◌, ◌≤◌, Bool, true, false, cond, not, ◌&&◌, eqb, leb, List, [], ◌∷◌, ◌++◌, length, Some, None, Ok, Err, codes, decimal, Option, Result, sym, refl, ap, ◌∙◌, subst, ⊎_elim, arith}
 use Rattle.std.specs.Option.{option_map, ok_or}
 use Rattle.std.specs.List.{AllByRecursion as All}
 use Rattle.std.specs.Str.{bytes_eq}
 use Rattle.std.proofs.lemmas.Fmt.{decimal_digit, decimal_step}
 use Rattle.std.proofs.lemmas.Slice.Eq.{bytes_eq-Decides}
-use Rattle.std.proofs.lemmas.Bool.{cond-true, cond-false, cond_both, cases_eq, cases_Bool, eq-eqb, ne_eqb, eqb-true, le-leb, leb-true, and_parts, and_from, not-true, both_ways, cases_lt}
+use Rattle.std.proofs.lemmas.Bool.{cond-true, cond-false, cases_eq, cases_Bool, eq-eqb, ne_eqb, eqb-true, le-leb, leb-true, and_parts, and_from, not-true, both_ways, cases_lt}
 use Rattle.sheet.specs.declared.columns.Column.{Column}
 use Rattle.sheet.specs.declared.columns.Column.TheVariants as column
 use Rattle.sheet.specs.declared.Entry.{Entry}
@@ -14,7 +14,7 @@ use Rattle.sheet.specs.declared.Mark.TheVariants.{Open}
 use Rattle.sheet.specs.declared.columns.Names.{Names}
 use Rattle.sheet.specs.declared.refusals.Refusal.{Refusal}
 use Rattle.sheet.specs.declared.refusals.Refusal.TheVariants.{FieldCount}
-use Rattle.sheet.specs.Format.{ahead, pieces, unended, lines, fields, three, same_column, each_once, as_column, as_names, within, as_coordinate, as_mark, entry_at, filled, and_then, entry_of, as_entry}
+use Rattle.sheet.specs.Format.{ahead, pieces, unended, fields, three, same_column, each_once, as_column, as_names, within, as_coordinate, as_mark, entry_at, filled, and_then, entry_of, as_entry}
 use Rattle.sheet.specs.Laws.{joined_by, Unbroken, name_of, Holds, Named, Valued, FormatLaws}
 use Rattle.sheet.proofs.Splits.{some_piece}
 

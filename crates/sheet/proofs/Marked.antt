@@ -1,5 +1,5 @@
 -- The cells that have a mark, one entry at a time.
-use Rattle.std.proofs.Common.{◌≡◌, ℕ, suc, ◌+◌, ◌<◌, ◌≤◌, Bool, true, false, cond, List, [], ◌∷◌, ◌++◌, map, length, get_or, take, drop, filter, sym, refl, ap, ◌∙◌, append_assoc, append-nil, arith}
+use Rattle.std.proofs.Common.{◌≡◌, ℕ, suc, ◌+◌, ◌<◌, ◌≤◌, Bool, true, false, cond, List, [], ◌∷◌, ◌++◌, map, length, get_or, take, drop, filter, sym, ap, ◌∙◌, append_assoc, append-nil, arith}
 use Rattle.std.proofs.lemmas.List.Elements.{filter-append, filter_more}
 use Rattle.std.proofs.lemmas.List.{map-append, length-append, length-map, take-append-drop}
 use Rattle.floor.specs.declared.Cell.{Cell}
@@ -7,7 +7,7 @@ use Rattle.sheet.specs.declared.Entry.{Entry}
 use Rattle.sheet.specs.declared.Mark.{Mark}
 use Rattle.sheet.specs.declared.Mark.TheVariants.{Open, Panel, Device}
 use Rattle.sheet.specs.Meaning.{same_mark, marked}
-use Rattle.sheet.specs.Run.{cells_marked, run_of}
+use Rattle.sheet.specs.Run.{cells_marked}
 
 module _ (m : Mark) (es : List Entry) where
   module _ (i : ℕ) (d : Entry) (inside : i < length es) where

@@ -1,11 +1,11 @@
 -- What every reading keeps of the entries so far: they are inside, apart, numbered by their lines, with at most one panel.
-use Rattle.std.proofs.Common.{◌≡◌, ℕ, zero, suc, ◌+◌, ◌-◌, ◌*◌, ◌<◌, ◌≤◌, Bool, true, false, cond, ◌&&◌, ◌||◌, eqb, leb, List, [], ◌∷◌, ◌++◌, map, length, get_or, IfSome, IfOk, Some, None, Ok, Err, filter, Option, Result, sym, refl, ap, ◌∙◌, subst, ⊎_elim, arith}
+use Rattle.std.proofs.Common.{◌≡◌, ℕ, ◌+◌, ◌-◌, ◌*◌, ◌<◌, ◌≤◌, Bool, true, false, cond, ◌&&◌, ◌||◌, eqb, leb, List, [], ◌∷◌, ◌++◌, map, length, get_or, IfSome, IfOk, Some, None, Ok, Err, Option, Result, sym, refl, ap, ◌∙◌, subst, ⊎_elim, arith}
 use Rattle.std.specs.Option.{option_map, ok_or}
 use Rattle.std.specs.List.{AllByRecursion as All}
 use Rattle.std.proofs.lemmas.List.Elements.{filter-append}
 use Rattle.std.proofs.ByRecursion.{All-push, All-get_or, All-map, All-weaker}
 use Rattle.std.proofs.lemmas.List.{length-append, length-map, length_push, get_or-map, get_or_push, get_or_append_left, map_push}
-use Rattle.std.proofs.lemmas.Bool.{cond_both, cond-true, cond-false, and_parts, and_from, or_parts, leb-true, eq-eqb, eqb-true, cases_lt, both_ways}
+use Rattle.std.proofs.lemmas.Bool.{cond_both, and_parts, and_from, or_parts, leb-true, eq-eqb, cases_lt, both_ways}
 use Rattle.floor.specs.declared.Cell.{Cell}
 use Rattle.sheet.specs.declared.columns.Column.{Column}
 use Rattle.sheet.specs.declared.columns.Column.TheVariants as column
@@ -14,7 +14,7 @@ use Rattle.sheet.specs.declared.Mark.{Mark}
 use Rattle.sheet.specs.declared.Mark.TheVariants.{Open, Panel}
 use Rattle.sheet.specs.declared.columns.Names.{Names}
 use Rattle.sheet.specs.declared.refusals.Refusal.{Refusal}
-use Rattle.sheet.specs.Format.{within, three, fields, as_coordinate, as_mark, entry_at, filled, valued, and_then, entry_of, as_entry}
+use Rattle.sheet.specs.Format.{within, three, fields, as_coordinate, as_mark, entry_at, filled, and_then, entry_of, as_entry}
 use Rattle.sheet.specs.Meaning.{same_cell, some, named, same_mark, marked, has_panel, admitted, added}
 use Rattle.sheet.specs.Accepted.{Accepted}
 use Rattle.sheet.proofs.Distinct.{Distinct, distinct_push, distinct_get_or, few_distinct}

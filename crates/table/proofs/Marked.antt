@@ -6,7 +6,7 @@ use Rattle.floor.specs.declared.Cell.{Cell}
 use Rattle.floor.specs.declared.Heading.{Heading}
 use Rattle.floor.specs.declared.Heading.TheVariants.{North, NorthEast, East, SouthEast, South, SouthWest, West, NorthWest}
 use Rattle.floor.specs.Plane.{Point, point, number}
-use Rattle.floor.specs.Plans.{Plan, inside, opens, is_open, marked}
+use Rattle.floor.specs.Plans.{Plan, opens, is_open, marked}
 use Rattle.floor.specs.Jumps.{jump_from, jump_of}
 use Rattle.floor.proofs.Jumps.{jump_blocked}
 use Rattle.source.specs.Labels.{label_of}

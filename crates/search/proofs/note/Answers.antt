@@ -1,6 +1,6 @@
 use Rattle.std.proofs.Common.{◌≡◌, true, get_or, sym, refl, ap, ◌∙◌, subst}
 use Rattle.search.specs.declared.entry.Reached.{Reached}
-use Rattle.search.specs.Mark.{Unmet, Waits, marked, way, key, blank, marks, is_waiting}
+use Rattle.search.specs.Mark.{Unmet, Waits, marked, way, blank, marks, is_waiting}
 use Rattle.search.specs.Queue.{sooner}
 use Rattle.search.specs.Search.{NoDearer, wrote, no_gain, settled}
 use Rattle.search.proofs.Marks as written

@@ -1,5 +1,5 @@
 -- An entry with the mark adds its cell, and any other adds nothing.
-use Rattle.std.proofs.Common.{◌≡◌, ◌++◌, vec_items, sym, refl, ap, ◌∙◌}
+use Rattle.std.proofs.Common.{◌++◌, vec_items, sym, refl, ap, ◌∙◌}
 use Rattle.std.proofs.lemmas.List.{take_all}
 use Rattle.sheet.specs.declared.Mark.TheVariants.{Open}
 use Rattle.sheet.specs.Format.{entry_at}

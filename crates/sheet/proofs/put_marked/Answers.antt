@@ -1,5 +1,5 @@
 -- An entry with the mark adds its cell, and any other adds nothing.
-use Rattle.std.proofs.Common.{◌≡◌, ℕ, ◌+◌, ◌<◌, ◌≤◌, true, List, length, get_or, take, sym, refl, ap, ◌∙◌, subst, arith, rules}
+use Rattle.std.proofs.Common.{◌≡◌, ℕ, ◌+◌, ◌<◌, ◌≤◌, true, List, length, get_or, take, sym, ap, ◌∙◌, subst, arith, rules}
 use Rattle.std.proofs.lemmas.List.{length_push, take_all}
 use Rattle.floor.specs.declared.Cell.{Cell}
 use Rattle.writing.specs.Fronts.{Wrote}

@@ -1,5 +1,5 @@
 -- The panel's cell, and then the devices'.
-use Rattle.std.proofs.Common.{◌≡◌, length, arith}
+use Rattle.std.proofs.Common.{arith}
 use Rattle.std.proofs.lemmas.List.{length-append}
 use Rattle.writing.proofs.Fronts.{then, at_front}
 use Rattle.sheet.specs.declared.Mark.TheVariants.{Panel, Device}

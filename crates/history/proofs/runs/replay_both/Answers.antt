@@ -1,5 +1,5 @@
 -- Both planners begin with no cell open, under the one rate; then the promises are those of two runs.
-use Rattle.std.proofs.Common.{◌≡◌, List, vec_items, sym, ap, ◌∙◌, subst}
+use Rattle.std.proofs.Common.{◌≡◌, List, vec_items, sym, subst}
 use Rattle.floor.specs.declared.Counts.{Counts}
 use Rattle.floor.specs.Plans.{Plan, closed}
 use Rattle.rate.specs.declared.Comparison.{Comparison}

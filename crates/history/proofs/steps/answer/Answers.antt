@@ -1,5 +1,5 @@
 -- A loop's total is cheapest among all routes for the whole loop, since each leg is.
-use Rattle.std.proofs.Common.{◌≡◌, List, vec_items, sym, subst, rules}
+use Rattle.std.proofs.Common.{List, vec_items, sym, subst, rules}
 use Rattle.floor.specs.declared.Cell.{Cell}
 use Rattle.floor.specs.Plans.{legal}
 use Rattle.floor.proofs.Legal.{legal_fair}

@@ -1,9 +1,8 @@
 -- The lists have the lengths asked for, and the corners kept are those written.
-use Rattle.std.proofs.Common.{◌≡◌, List, length, take, vec_items, sym, ap, ◌∙◌, rules}
+use Rattle.std.proofs.Common.{◌≡◌, length, take, vec_items, sym, ap, ◌∙◌, rules}
 use mathlib.Core.Path.{transport}
 use Rattle.std.specs.Vec.{with_items}
 use Rattle.std.proofs.lemmas.List.{with_items_is}
-use Rattle.floor.specs.declared.Cell.{Cell}
 use Rattle.floor.specs.Plans.{legal}
 use Rattle.lengths.specs.Answers.{RouteTold, drawn_costs, corner_count}
 use Rattle.history.proofs.steps.drawn.Goals as goal

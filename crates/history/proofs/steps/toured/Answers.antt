@@ -1,12 +1,10 @@
 -- The lists have the lengths asked for, and the legs kept are those measured.
-use Rattle.std.proofs.Common.{◌≡◌, List, length, take, vec_items, sym, ap, ◌∙◌, rules}
+use Rattle.std.proofs.Common.{◌≡◌, length, take, vec_items, sym, ap, ◌∙◌, rules}
 use mathlib.Core.Path.{transport}
 use Rattle.std.specs.Vec.{with_items}
 use Rattle.std.proofs.lemmas.List.{with_items_is}
-use Rattle.floor.specs.declared.Counts.{Counts}
 use Rattle.floor.specs.Plans.{legal}
 use Rattle.planner.specs.Loops.{LoopTold}
-use Rattle.planner.specs.Touring.{Toured}
 use Rattle.history.specs.Records.{measured_legs}
 use Rattle.history.proofs.Measuring.{measured_front}
 use Rattle.history.proofs.steps.toured.Goals as goal

@@ -1,5 +1,5 @@
 -- The questions have passed; the way back from the target is written, and what lies past it is left.
-use Rattle.std.proofs.Common.{◌≡◌, ℕ, ◌+◌, ◌*◌, ◌<◌, ◌≤◌, true, false, ltb, leb, List, [], ◌∷◌, ◌++◌, length, take, drop, set, None, sym, refl, ap, ◌∙◌, subst, arith, length-append, rules}
+use Rattle.std.proofs.Common.{◌≡◌, ℕ, ◌*◌, ◌<◌, ◌≤◌, true, ltb, leb, List, [], ◌∷◌, ◌++◌, length, take, drop, None, sym, refl, ap, ◌∙◌, subst, arith, length-append}
 use Rattle.std.proofs.lemmas.Nat.{mul-le}
 use Rattle.std.proofs.lemmas.List.{length-take-le, take_at, drop_at, take_more_set, drop-set-lt}
 use Rattle.std.proofs.lemmas.Bool.{both_ways, and_parts, leb-true, ltb-true}
@@ -12,9 +12,8 @@ use Rattle.cheapest.specs.Cheapest.{Cheapest}
 use Rattle.search.specs.Mark.{marks}
 use Rattle.places.specs.Leaps.{same_cell, cell_of}
 use Rattle.places.proofs.Numbers.{same_cell_is, same_cell_from}
-use Rattle.lengths.specs.declared.answers.Refusal.{Refusal}
 use Rattle.lengths.specs.declared.answers.Refusal.TheVariants.{ShortCorners}
-use Rattle.lengths.specs.Questions.{Question, ask, first_no, route_questions, places}
+use Rattle.lengths.specs.Questions.{ask, first_no, route_questions, places}
 use Rattle.lengths.specs.Answers.{Bent}
 use Rattle.lengths.proofs.Asked.{Passed, passed, yes_first, told_cost, told_none}
 use Rattle.lengths.proofs.Told.{stay, found, nowhere}

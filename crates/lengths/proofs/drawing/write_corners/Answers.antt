@@ -1,5 +1,5 @@
 -- Each turn of the loop goes one place back on the way, which is there, since the place is finished.
-use Rattle.std.proofs.Common.{◌≡◌, ℕ, ◌+◌, ◌<◌, ◌≤◌, Bool, true, false, List, [], ◌∷◌, ◌++◌, length, get_or, take, drop, set, sym, refl, ap, ◌∙◌, subst, arith, length-set, rules}
+use Rattle.std.proofs.Common.{◌≡◌, ℕ, ◌+◌, ◌<◌, List, [], ◌∷◌, ◌++◌, length, get_or, drop, set, sym, ap, ◌∙◌, subst, arith, length-set}
 use Rattle.std.proofs.lemmas.List.{take_more_set, drop-set-lt, length-take-le}
 use Rattle.std.proofs.lemmas.Bool.{not-true, not-false}
 use Rattle.floor.specs.declared.Cell.{Cell}
@@ -7,7 +7,6 @@ use Rattle.floor.specs.Tally.{steps}
 use Rattle.floor.specs.Plane.{same}
 use Rattle.search.specs.declared.entry.Entry.{Entry}
 use Rattle.search.specs.declared.entry.Reached.{Reached}
-use Rattle.search.specs.declared.graph.Position.{Position}
 use Rattle.search.specs.declared.graph.Position.TheVariants.{Start, Place}
 use Rattle.search.specs.Mark.{Done, marks, way, blank}
 use Rattle.search.proofs.Marks.{standing_inside, done_way}

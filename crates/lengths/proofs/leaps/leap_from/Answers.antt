@@ -1,5 +1,5 @@
 -- A leap ends inside the plan, so its place has a small number.
-use Rattle.std.proofs.Common.{◌≡◌, ◌<◌, sym, subst}
+use Rattle.std.proofs.Common.{◌<◌, sym, subst}
 use Rattle.floor.specs.Places.{place_number}
 use Rattle.places.proofs.Sound.{small_number}
 use Rattle.lengths.proofs.leaps.leap_from.Goals as goal

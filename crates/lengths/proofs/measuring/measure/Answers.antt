@@ -1,5 +1,5 @@
 -- The questions have passed; then either nothing is searched, or the search says what is cheapest.
-use Rattle.std.proofs.Common.{◌≡◌, ◌≤◌, true, false, [], length, take, drop, None, sym, refl, ap, ◌∙◌, subst, arith, rules}
+use Rattle.std.proofs.Common.{◌≡◌, ◌≤◌, [], length, take, None, sym, refl, subst, arith}
 use Rattle.std.proofs.lemmas.List.{length-take-le}
 use Rattle.std.proofs.lemmas.Bool.{both_ways}
 use Rattle.floor.specs.declared.Cell.{Cell}

@@ -1,5 +1,5 @@
 -- The entries of all places are a front of the list, and what lies past them is not lent.
-use Rattle.std.proofs.Common.{◌≡◌, ℕ, ◌*◌, List, length, take, drop, sym, refl, ap, ◌∙◌, subst, rules}
+use Rattle.std.proofs.Common.{◌≡◌, ◌*◌, List, length, drop, sym, refl, ap, ◌∙◌, subst, rules}
 use Rattle.std.proofs.lemmas.List.{take_at, drop_at}
 use Rattle.search.specs.declared.entry.Entry.{Entry}
 use Rattle.search.specs.Mark.{marks, Unmet}

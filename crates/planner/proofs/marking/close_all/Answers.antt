@@ -1,6 +1,6 @@
 -- Row after row is closed; in the end nothing is open, since nothing outside ever was.
-use Rattle.std.proofs.Common.{◌≡◌, ◌<◌, sym, ap, ◌∙◌, subst, arith}
-use Rattle.floor.specs.Plans.{Plan, closed}
+use Rattle.std.proofs.Common.{◌≡◌, ap, ◌∙◌, arith}
+use Rattle.floor.specs.Plans.{Plan}
 use Rattle.planner.specs.Shutting.{shut_row, shut_rows}
 use Rattle.planner.proofs.Shut.{rows_none, rows_more, rows_all}
 use Rattle.planner.proofs.marking.close_all.Goals as goal

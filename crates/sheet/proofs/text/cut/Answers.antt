@@ -1,8 +1,7 @@
 -- The first separator ends the first piece.
-use Rattle.std.proofs.Common.{◌≡◌, ◌+◌, ◌-◌, ◌<◌, ◌≤◌, ◌∷◌, length, take, drop, sym, refl, ap, ◌∙◌, subst, add-one, arith, length-drop}
+use Rattle.std.proofs.Common.{◌<◌, length, ◌∙◌, add-one, arith, length-drop}
 use native.Mathlib.Nat.{sub-zero}
 use Rattle.std.proofs.lemmas.List.{take_rest}
-use Rattle.sheet.specs.Format.{pieces}
 use Rattle.sheet.proofs.Splits.{one_piece, first_piece}
 use Rattle.sheet.proofs.text.cut.Goals as goal
 

@@ -1,4 +1,4 @@
-use Rattle.std.proofs.Common.{◌≡◌, true, false, is_err, Ok, Err, Result, sym, refl, ap, ◌∙◌, true≢false, arith, MatchResult}
+use Rattle.std.proofs.Common.{◌≡◌, false, is_err, Ok, Err, Result, sym, refl, ap, ◌∙◌, true≢false, arith, MatchResult}
 use Rattle.std.proofs.lemmas.Result.{MatchResult-from_err}
 use Rattle.octets.proofs.Cells.{ones_closed}
 use Rattle.octets.proofs.layout.ByteSource.make.Goals as goal
