@@ -187,7 +187,7 @@ mod tests {
         let mut buffer = [b'#'; ROOM];
         let written = list(1_000, &[LEG, LEG], &mut buffer);
         assert_eq!(rt; written, Ok(text.len()));
-        assert!(rt; &buffer[0..text.len()] == text);
+        assert!(rt; &buffer[0..text.len()] == text.as_slice());
         assert!(rt; buffer[text.len()] == b'#');
     }
 
