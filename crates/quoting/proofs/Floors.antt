@@ -1,6 +1,6 @@
 -- Idea: opening the cells that the entries name, one after another, leaves open just those that some entry names.
 use Rattle.std.proofs.Common.{◌≡◌, ℕ, ◌+◌, ◌<◌, ◌≤◌, Bool, true, false, cond, ◌&&◌, ◌||◌, eqb, ltb, List, [], ◌∷◌, ◌++◌, map, length, get_or, take, fold, sym, refl, ap, ◌∙◌, subst, arith}
-use Rattle.std.specs.List.{AllByRecursion as All}
+use Rattle.std.specs.List.{AllByRecursion}
 use Rattle.std.proofs.lemmas.List.{take-map, get_or-map, length-map}
 use Rattle.std.proofs.ByRecursion.{All-from_get_or}
 use Rattle.std.proofs.lemmas.List.Sums.{fold_more}
@@ -29,7 +29,7 @@ opened_more p es i d within =
 abbrev Inside : Entry → Type 0
 Inside e = (e.cell.row ≤ 15) × (e.cell.col ≤ 15)
 
-all_inside : (es : List Entry) → Accepted es → All Inside es
+all_inside : (es : List Entry) → Accepted es → AllByRecursion Inside es
 all_inside es a = All-from_get_or Inside es (entry_at 0 0 Open 0) (λ i h. (a.rows i (entry_at 0 0 Open 0) h, a.cols i (entry_at 0 0 Open 0) h))
 
 -- a cell that an entry names is that entry's
@@ -48,7 +48,7 @@ either false false false f e = refl
 either true false n f e = absurd (let z : ◌≡◌ {A = ℕ} 0 1 = cc in omega arith)
 either false true n f e = absurd (let z : ◌≡◌ {A = ℕ} 0 1 = cc in omega arith)
 
-opened_is : (es : List Entry) (free : ℕ → ℕ → Bool) → All Inside es → opened (record { rows = 16; cols = 16; free = free }) (cells_of es) ≡ record { rows = 16; cols = 16; free = λ r c. named (record { row = r; col = c }) es || free r c }
+opened_is : (es : List Entry) (free : ℕ → ℕ → Bool) → AllByRecursion Inside es → opened (record { rows = 16; cols = 16; free = free }) (cells_of es) ≡ record { rows = 16; cols = 16; free = λ r c. named (record { row = r; col = c }) es || free r c }
 opened_is [] free inside = refl
 opened_is (e ∷ es) free inside =
     let p : Plan = record { rows = 16; cols = 16; free = free } in
@@ -61,7 +61,7 @@ pub floor_opened : (es : List Entry) → Accepted es → opened (closed 16 16) (
 floor_opened es a = opened_is es (λ r c. false) (all_inside es a) ∙ (λ i. record { rows = 16; cols = 16; free = λ r c. or_false (named (record { row = r; col = c }) es) i })
 
 -- nothing is named outside
-named_inside : (es : List Entry) → All Inside es → (r c : ℕ) → (ltb r 16 && ltb c 16) ≡ false → named (record { row = r; col = c }) es ≡ false
+named_inside : (es : List Entry) → AllByRecursion Inside es → (r c : ℕ) → (ltb r 16 && ltb c 16) ≡ false → named (record { row = r; col = c }) es ≡ false
 named_inside [] inside r c out = refl
 named_inside (e ∷ es) inside r c out =
     let other : same_cell e.cell (record { row = r; col = c }) ≡ false = let row = inside.0.0 in let col = inside.0.1 in grind (arith, nat_tests) in

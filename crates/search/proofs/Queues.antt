@@ -1,7 +1,7 @@
 -- What the queue keeps as a place is put in, made cheaper or taken out.
 use Rattle.std.proofs.Common.{◌≡◌, ℕ, suc, ◌<◌, ◌≤◌, Bool, true, false, ltb, ◌⊎◌, List, [], ◌∷◌, length, get_or, sym, refl, ap, ◌∙◌, subst, inl, inr, arith}
 use Rattle.std.specs.List.Sorted.{IsPermutation}
-use Rattle.std.specs.List.{ContainsAt as Has, AllByRecursion as All}
+use Rattle.std.specs.List.{ContainsAt as Has, AllByRecursion}
 use Rattle.std.proofs.ByRecursion.{All-from_get_or, All-get_or, all-has, has_get_or, all_shuffled, has_shuffled}
 use Rattle.std.proofs.lemmas.List.Sorted.{length_permutation}
 use Rattle.std.proofs.lemmas.List.{get_or_default}
@@ -67,7 +67,7 @@ gone_first Dearer p h = refl
 
 module _ (order : Counts → Counts → Comparison) (n : ℕ) where
   -- The heap of places other than p stays one as p changes.
-  pub heap_off : (s s' : ℕ → Mark) (slot slot' : ℕ → ℕ) (p : ℕ) (m : Mark) (qs : List ℕ) → All (λ a. p ≡ a → ⊥) qs → Becomes s s' p m → ((j : ℕ) → (j ≡ p → ⊥) → slot' j ≡ slot j)
+  pub heap_off : (s s' : ℕ → Mark) (slot slot' : ℕ → ℕ) (p : ℕ) (m : Mark) (qs : List ℕ) → AllByRecursion (λ a. p ≡ a → ⊥) qs → Becomes s s' p m → ((j : ℕ) → (j ≡ p → ⊥) → slot' j ≡ slot j)
       → Heap (turns order s) (Stands n s slot) qs → Heap (turns order s') (Stands n s' slot') qs
   unfolding Heaped Indexed turns
   heap_off s s' slot slot' p m qs away new moved h =
@@ -83,11 +83,11 @@ module _ (order : Counts → Counts → Comparison) (n : ℕ) where
       }
 
   module _ (s : ℕ → Mark) (slot : ℕ → ℕ) (qs : List ℕ) (queue : Queue order n s slot qs) where
-    pub inside_all : All (λ a. a < n) qs
+    pub inside_all : AllByRecursion (λ a. a < n) qs
     unfolding Indexed
     inside_all = All-from_get_or _ qs 0 (λ k f. (queue.heap.indexed k 0 f).inside)
 
-    pub waits_all : All (λ a. is_waiting (s a) ≡ true) qs
+    pub waits_all : AllByRecursion (λ a. is_waiting (s a) ≡ true) qs
     unfolding Indexed
     waits_all = All-from_get_or _ qs 0 (λ k f. (queue.heap.indexed k 0 f).waits)
 
@@ -95,7 +95,7 @@ module _ (order : Counts → Counts → Comparison) (n : ℕ) where
     few = let a = count_le (λ k. is_waiting (s k)) n in let b = queue.many in omega arith
 
     -- a place that does not wait is not in the queue, and there is room for it
-    pub away : (p : ℕ) → is_waiting (s p) ≡ false → All (λ a. p ≡ a → ⊥) qs
+    pub away : (p : ℕ) → is_waiting (s p) ≡ false → AllByRecursion (λ a. p ≡ a → ⊥) qs
     unfolding Indexed
     away p idle = All-from_get_or _ qs 0 (λ k f same. both_ways _ idle (ap (λ a. is_waiting (s a)) same ∙ (queue.heap.indexed k 0 f).waits))
 
@@ -127,7 +127,7 @@ module _ (order : Counts → Counts → Comparison) (n : ℕ) where
     }
 
     -- what is left is the queue without it
-    pub left : (slot' : ℕ → ℕ) (qs' : List ℕ) (p : ℕ) → First order n s p → All (λ a. p ≡ a → ⊥) qs' → Heap (turns order s) (Stands n s slot') qs' → IsPermutation qs (p ∷ qs') → Left order n s slot' qs' p
+    pub left : (slot' : ℕ → ℕ) (qs' : List ℕ) (p : ℕ) → First order n s p → AllByRecursion (λ a. p ≡ a → ⊥) qs' → Heap (turns order s) (Stands n s slot') qs' → IsPermutation qs (p ∷ qs') → Left order n s slot' qs' p
     unfolding Left
     left slot' qs' p one apart h sh s' r new =
         let gone : is_waiting (s' p) ≡ false = ap is_waiting new.at in

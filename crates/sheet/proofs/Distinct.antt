@@ -1,15 +1,15 @@
 -- Distinct numbers below n are at most n: take n - 1 out, and at most one number is gone.
 use Rattle.std.proofs.Common.{◌≡◌, ℕ, zero, suc, ◌+◌, ◌<◌, ◌≤◌, Bool, not, eqb, List, [], ◌∷◌, ◌++◌, length, get_or, filter, sym, refl, ap, ◌∙◌, subst, ⊎_elim, arith}
-use Rattle.std.specs.List.{AllByRecursion as All}
+use Rattle.std.specs.List.{AllByRecursion}
 use Rattle.std.proofs.ByRecursion.{All-push, All-get_or, all_kept_by}
 use Rattle.std.proofs.lemmas.Bool.{cases_eq, eq-eqb, ne_eqb, cond-true, cond-false}
 
 -- no number comes twice
 abbrev pub Distinct : List ℕ → Type 0
 Distinct [] = Unit {0}
-Distinct (x ∷ xs) = All (λ y. x ≡ y → ⊥) xs × Distinct xs
+Distinct (x ∷ xs) = AllByRecursion (λ y. x ≡ y → ⊥) xs × Distinct xs
 
-pub distinct_push : (xs : List ℕ) (y : ℕ) → Distinct xs → All (λ x. x ≡ y → ⊥) xs → Distinct (xs ++ y ∷ [])
+pub distinct_push : (xs : List ℕ) (y : ℕ) → Distinct xs → AllByRecursion (λ x. x ≡ y → ⊥) xs → Distinct (xs ++ y ∷ [])
 distinct_push [] y d a = (tt, tt)
 distinct_push (x ∷ xs) y d a = (All-push (λ z. x ≡ z → ⊥) xs y d.0 a.0, distinct_push xs y d.1 a.1)
 
@@ -23,7 +23,7 @@ distinct_get_or (x ∷ xs) (suc i) (suc j) e d before inside same = distinct_get
 abbrev other : ℕ → ℕ → Bool
 other n x = not (eqb x n)
 
-all_other : (n : ℕ) (xs : List ℕ) → All (λ x. n ≡ x → ⊥) xs → filter (other n) xs ≡ xs
+all_other : (n : ℕ) (xs : List ℕ) → AllByRecursion (λ x. n ≡ x → ⊥) xs → filter (other n) xs ≡ xs
 all_other n [] a = refl
 all_other n (x ∷ xs) a = cond-true _ _ _ (ap not (ne_eqb x n (λ e. a.0 (sym e)))) ∙ ap (λ r. x ∷ r) (all_other n xs a.1)
 
@@ -41,7 +41,7 @@ one_gone n (x ∷ xs) d =
     ⊎_elim
     (λ same.
     let gone = ap length (cond-false (other n x) (x ∷ filter (other n) xs) (filter (other n) xs) (ap not (eq-eqb x n same))) in
-    let whole = ap length (all_other n xs (subst (λ m. All (λ y. m ≡ y → ⊥) xs) same d.0)) in
+    let whole = ap length (all_other n xs (subst (λ m. AllByRecursion (λ y. m ≡ y → ⊥) xs) same d.0)) in
     omega arith)
     (λ differ.
     let stays = ap length (cond-true (other n x) (x ∷ filter (other n) xs) (filter (other n) xs) (ap not (ne_eqb x n differ))) in
@@ -49,15 +49,15 @@ one_gone n (x ∷ xs) d =
     omega arith)
     (cases_eq x n)
 
-kept_below : (n : ℕ) (xs : List ℕ) → All (λ x. x < suc n) xs → All (λ x. x < n) (filter (other n) xs)
+kept_below : (n : ℕ) (xs : List ℕ) → AllByRecursion (λ x. x < suc n) xs → AllByRecursion (λ x. x < n) (filter (other n) xs)
 kept_below n [] a = tt
 kept_below n (x ∷ xs) a =
     ⊎_elim
-    (λ same. subst (All (λ y. y < n)) (sym (cond-false _ _ _ (ap not (eq-eqb x n same)))) (kept_below n xs a.1))
-    (λ differ. let low : x < suc n = a.0 in let less : x < n = omega arith in subst (All (λ y. y < n)) (sym (cond-true _ _ _ (ap not (ne_eqb x n differ)))) (less, kept_below n xs a.1))
+    (λ same. subst (AllByRecursion (λ y. y < n)) (sym (cond-false _ _ _ (ap not (eq-eqb x n same)))) (kept_below n xs a.1))
+    (λ differ. let low : x < suc n = a.0 in let less : x < n = omega arith in subst (AllByRecursion (λ y. y < n)) (sym (cond-true _ _ _ (ap not (ne_eqb x n differ)))) (less, kept_below n xs a.1))
     (cases_eq x n)
 
-pub few_distinct : (n : ℕ) (xs : List ℕ) → Distinct xs → All (λ x. x < n) xs → length xs ≤ n
+pub few_distinct : (n : ℕ) (xs : List ℕ) → Distinct xs → AllByRecursion (λ x. x < n) xs → length xs ≤ n
 few_distinct zero [] d a = omega arith
 few_distinct zero (x ∷ xs) d a = let low : x < 0 = a.0 in omega arith
 few_distinct (suc n) xs d a =

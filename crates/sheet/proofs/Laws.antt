@@ -1,7 +1,7 @@
 -- The laws of the format: of pieces by induction on the text, of values by cases.
 use Rattle.std.proofs.Common.{◌≡◌, ℕ, ◌+◌, ◌-◌, ◌/◌, ◌%◌, ◌<◌, ◌≤◌, Bool, true, false, cond, not, ◌&&◌, eqb, leb, List, [], ◌∷◌, ◌++◌, length, Some, None, Ok, Err, codes, decimal, Option, Result, sym, refl, ap, ◌∙◌, subst, ⊎_elim, arith}
 use Rattle.std.specs.Option.{option_map, ok_or}
-use Rattle.std.specs.List.{AllByRecursion as All}
+use Rattle.std.specs.List.{AllByRecursion}
 use Rattle.std.specs.Str.{bytes_eq}
 use Rattle.std.proofs.lemmas.Fmt.{decimal_digit, decimal_step}
 use Rattle.std.proofs.lemmas.Slice.Eq.{bytes_eq-Decides}
@@ -37,16 +37,16 @@ rejoined s (b ∷ text) =
     (λ differ. ap (joined_by s) (cond-false _ _ _ (ne_eqb b s differ)) ∙ join_ahead s b (pieces s text) (some_piece s text) ∙ ap (λ l. b ∷ l) (rejoined s text))
     (cases_eq b s)
 
-unbroken_ahead : (s b : ℕ) (ps : List (List ℕ)) → (b ≡ s → ⊥) → All (Unbroken s) ps → All (Unbroken s) (ahead b ps)
+unbroken_ahead : (s b : ℕ) (ps : List (List ℕ)) → (b ≡ s → ⊥) → AllByRecursion (Unbroken s) ps → AllByRecursion (Unbroken s) (ahead b ps)
 unbroken_ahead s b [] differ all = ((differ, tt), tt)
 unbroken_ahead s b (p ∷ ps) differ all = ((differ, all.0), all.1)
 
-unbroken : (s : ℕ) (text : List ℕ) → All (Unbroken s) (pieces s text)
+unbroken : (s : ℕ) (text : List ℕ) → AllByRecursion (Unbroken s) (pieces s text)
 unbroken s [] = (tt, tt)
 unbroken s (b ∷ text) =
     ⊎_elim
-    (λ same. subst (All (Unbroken s)) (sym (cond-true _ _ _ (eq-eqb b s same))) (tt, unbroken s text))
-    (λ differ. subst (All (Unbroken s)) (sym (cond-false _ _ _ (ne_eqb b s differ))) (unbroken_ahead s b (pieces s text) differ (unbroken s text)))
+    (λ same. subst (AllByRecursion (Unbroken s)) (sym (cond-true _ _ _ (eq-eqb b s same))) (tt, unbroken s text))
+    (λ differ. subst (AllByRecursion (Unbroken s)) (sym (cond-false _ _ _ (ne_eqb b s differ))) (unbroken_ahead s b (pieces s text) differ (unbroken s text)))
     (cases_eq b s)
 
 -- a byte that is no separator goes in front of the first piece
@@ -61,7 +61,7 @@ unique_first : (s : ℕ) (p text : List ℕ) → Unbroken s p → pieces s (p ++
 unique_first s [] text u = cond-true _ _ _ (eq-eqb s s refl)
 unique_first s (b ∷ p) text u = one_ahead s b (p ++ s ∷ text) u.0 ∙ ap (ahead b) (unique_first s p text u.1)
 
-unique : (s : ℕ) (p : List ℕ) (more : List (List ℕ)) → All (Unbroken s) (p ∷ more) → pieces s (joined_by s (p ∷ more)) ≡ p ∷ more
+unique : (s : ℕ) (p : List ℕ) (more : List (List ℕ)) → AllByRecursion (Unbroken s) (p ∷ more) → pieces s (joined_by s (p ∷ more)) ≡ p ∷ more
 unique s p [] all = unique_last s p all.0
 unique s p (q ∷ more) all = unique_first s p (joined_by s (q ∷ more)) all.0 ∙ ap (λ ps. p ∷ ps) (unique s q more all.1)
 

@@ -1,7 +1,7 @@
 -- What every reading keeps of the entries so far: they are inside, apart, numbered by their lines, with at most one panel.
 use Rattle.std.proofs.Common.{◌≡◌, ℕ, ◌+◌, ◌-◌, ◌*◌, ◌<◌, ◌≤◌, Bool, true, false, cond, ◌&&◌, ◌||◌, eqb, leb, List, [], ◌∷◌, ◌++◌, map, length, get_or, IfSome, IfOk, Some, None, Ok, Err, Option, Result, sym, refl, ap, ◌∙◌, subst, ⊎_elim, arith}
 use Rattle.std.specs.Option.{option_map, ok_or}
-use Rattle.std.specs.List.{AllByRecursion as All}
+use Rattle.std.specs.List.{AllByRecursion}
 use Rattle.std.proofs.lemmas.List.Elements.{filter-append}
 use Rattle.std.proofs.ByRecursion.{All-push, All-get_or, All-map, All-weaker}
 use Rattle.std.proofs.lemmas.List.{length-append, length-map, length_push, get_or-map, get_or_push, get_or_append_left, map_push}
@@ -94,7 +94,7 @@ abbrev pub place : Entry → ℕ
 place e = 16 * e.cell.row + e.cell.col
 
 pub record Sound (es : List Entry) : Type 0 where
-  pub on_floor : All (λ e. (e.cell.row ≤ 15) × (e.cell.col ≤ 15)) es
+  pub on_floor : AllByRecursion (λ e. (e.cell.row ≤ 15) × (e.cell.col ≤ 15)) es
   pub apart : Distinct (map place es)
   pub numbered : (i : ℕ) (d : Entry) → i < length es → (get_or es i d).line ≡ i + 2
   pub panel : length (marked Panel es) ≡ cond (has_panel es) 1 0
@@ -102,7 +102,7 @@ pub record Sound (es : List Entry) : Type 0 where
 pub sound_none : Sound []
 sound_none = record { on_floor = tt; apart = tt; numbered = λ i d h. absurd (omega arith); panel = refl }
 
-none_pass : (test : Entry → Bool) (es : List Entry) → some test es ≡ false → All (λ e. test e ≡ false) es
+none_pass : (test : Entry → Bool) (es : List Entry) → some test es ≡ false → AllByRecursion (λ e. test e ≡ false) es
 none_pass test [] h = tt
 none_pass test (e ∷ es) h = let both = or_parts (test e) (some test es) h in (both.0, none_pass test es both.1)
 
@@ -146,7 +146,7 @@ sound_push es e h j =
       panel = panel_push es e h.panel j.single;
     }
   where
-    other_places : (xs : List Entry) → All (λ x. (x.cell.row ≤ 15) × (x.cell.col ≤ 15)) xs → All (λ x. same_cell x.cell e.cell ≡ false) xs → All (λ x. place x ≡ place e → ⊥) xs
+    other_places : (xs : List Entry) → AllByRecursion (λ x. (x.cell.row ≤ 15) × (x.cell.col ≤ 15)) xs → AllByRecursion (λ x. same_cell x.cell e.cell ≡ false) xs → AllByRecursion (λ x. place x ≡ place e → ⊥) xs
     other_places [] a b = tt
     other_places (x ∷ xs) a b =
         ((λ same. both_ways _ b.0 (same_place x e a.0.0 a.0.1 j.inside.row j.inside.col same)), other_places xs a.1 b.1)

@@ -1,6 +1,6 @@
 -- Idea: one test for all kinds of examples, computed; one lemma that turns the test into the fact; the table passes.
 use Rattle.std.proofs.Common.{◌≡◌, ℕ, Bool, true, cond, ◌&&◌, eqb, List, [], ◌∷◌, get_or, ℤ, pos, negsuc, Some, None, Ok, Err, Option, refl}
-use Rattle.std.specs.List.{AllByRecursion as All}
+use Rattle.std.specs.List.{AllByRecursion}
 use Rattle.std.proofs.lemmas.Bool.{and_parts, eqb-true}
 use Rattle.floor.specs.declared.Counts.{Counts}
 use Rattle.floor.specs.declared.Heading.{Heading}
@@ -111,7 +111,7 @@ all_pass ws [] = true
 all_pass [] (e ∷ es) = passes no_hint e && all_pass [] es
 all_pass (w ∷ ws) (e ∷ es) = passes w e && all_pass ws es
 
-all_hold : (ws : List Hint) (es : List Example) → all_pass ws es ≡ true → All Holds es
+all_hold : (ws : List Hint) (es : List Example) → all_pass ws es ≡ true → AllByRecursion Holds es
 all_hold ws [] t = tt
 all_hold [] (e ∷ es) t = let a = and_parts _ _ t in (passes_holds no_hint e a.0, all_hold [] es a.1)
 all_hold (w ∷ ws) (e ∷ es) t = let a = and_parts _ _ t in (passes_holds w e a.0, all_hold ws es a.1)
@@ -157,5 +157,5 @@ table_passes : all_pass hints table ≡ true
 unfolding step legal stop scan
 table_passes = refl
 
-pub table_holds : All Holds table
+pub table_holds : AllByRecursion Holds table
 table_holds = all_hold hints table table_passes
