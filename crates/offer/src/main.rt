@@ -3,10 +3,10 @@
 
 ghost use Rattle.std.specs.Prelude.{◌≤◌, length, IfOk};
 
-use anyhow::anyhow;
 use quoting::{PAGE, quote};
 use std::io;
 use std::io::{Read, Write};
+use std::process::ExitCode;
 
 // One byte more than the longest sheet, so that a longer one shows.
 const MOST_READ: usize = 4097;
@@ -27,7 +27,7 @@ fn fill(input: &mut impl Read, buffer: &mut [u8]) -> io::Result<usize>
 }
 
 // A refusal goes to standard output as values and to standard error as a sentence, and the program ends with status 1.
-fn main(rt: HostRuntime) -> anyhow::Result<()> {
+fn main(rt: HostRuntime) -> anyhow::Result<ExitCode> {
     let mut sheet = [0u8; MOST_READ];
     let count = fill(&mut rt.stdin(), &mut sheet)?;
     let mut page = [0u8; PAGE];
@@ -35,7 +35,7 @@ fn main(rt: HostRuntime) -> anyhow::Result<()> {
     rt.stdout().write_all(&page[0..outcome.length])?;
     if let Some(refusal) = outcome.refusal {
         eprintln!(rt; "offer: {refusal}")?;
-        return Err(anyhow!("the sheet is refused"));
+        return Ok(ExitCode::FAILURE);
     }
-    Ok(())
+    Ok(ExitCode::SUCCESS)
 }

@@ -1,5 +1,4 @@
 // A look at a sheet's floor: the jumps from its panel, and the length from there to its first device.
-use anyhow::anyhow;
 use floor::Cell;
 use lengths::{Measured, Refusal};
 use packed::PackedSource;
@@ -9,6 +8,7 @@ use rates::exact::ExactRate;
 use search::entry::Entry as Place;
 use sheet::Entry;
 use source::JumpSource;
+use std::process::ExitCode;
 
 // Rows, and columns, of the floor that a sheet speaks of.
 const SIDE: usize = 16;
@@ -71,12 +71,12 @@ fn sentence(refusal: Refusal) -> &'static str {
 }
 
 // As a sheet is refused: values, a sentence, and status 1. There is no loop here, and so no leg.
-fn refuse(rt: &HostRuntime, refusal: Refusal) -> anyhow::Result<()> {
+fn refuse(rt: &HostRuntime, refusal: Refusal) -> anyhow::Result<ExitCode> {
     let fault = report::planner_fault(usize::from(refusal.number()), 0);
     let why = sentence(refusal);
     println!(rt; "{fault}")?;
     eprintln!(rt; "quote: {why}")?;
-    Err(anyhow!("the floor is refused"))
+    Ok(ExitCode::FAILURE)
 }
 
 // Prints the length from the panel to the first device, if there is one.
@@ -85,20 +85,23 @@ fn look_ahead<S: JumpSource, R: Rate>(
     planner: &Planner<S, R>,
     panel: Cell,
     devices: &[Cell],
-) -> anyhow::Result<()> {
+) -> anyhow::Result<ExitCode> {
     let Some(device) = devices.first() else {
-        return Ok(());
+        return Ok(ExitCode::SUCCESS);
     };
     match length_between(planner, panel, *device) {
-        Ok(measured) => print_length(rt, measured),
+        Ok(measured) => {
+            print_length(rt, measured)?;
+            Ok(ExitCode::SUCCESS)
+        }
         Err(refusal) => refuse(rt, refusal),
     }
 }
 
 // Marks the cells of a sheet on a floor, and looks from the first of its stops, the panel.
-pub fn look(rt: &HostRuntime, entries: &[Entry], stops: &[Cell]) -> anyhow::Result<()> {
+pub fn look(rt: &HostRuntime, entries: &[Entry], stops: &[Cell]) -> anyhow::Result<ExitCode> {
     let [panel, devices @ ..] = stops else {
-        return Ok(());
+        return Ok(ExitCode::SUCCESS);
     };
     let mut words = [0u64; WORDS];
     let mut floor = PackedSource::make(&mut words, SIDE, SIDE);

@@ -5,12 +5,12 @@ ghost use Rattle.std.specs.Prelude.{◌≤◌, length, IfOk};
 
 mod look;
 
-use anyhow::anyhow;
 use floor::Cell;
 use look::look;
 use sheet::{Entry, Mark, Refusal};
 use std::io;
 use std::io::Read;
+use std::process::ExitCode;
 
 // One byte more than the longest sheet, so that a longer one shows.
 const MOST_READ: usize = 4097;
@@ -37,7 +37,7 @@ fn fill(input: &mut impl Read, buffer: &mut [u8]) -> io::Result<usize>
 }
 
 // Prints what the sheet holds, and then looks at its floor.
-fn list(rt: &HostRuntime, entries: &[Entry]) -> anyhow::Result<()> {
+fn list(rt: &HostRuntime, entries: &[Entry]) -> anyhow::Result<ExitCode> {
     let stops = sheet::run(rt.alloc(), entries)?;
     let text = report::listing(rt.alloc(), stops.as_slice(), entries.len())?;
     print!(rt; "{text}")?;
@@ -45,14 +45,14 @@ fn list(rt: &HostRuntime, entries: &[Entry]) -> anyhow::Result<()> {
 }
 
 // The values go to standard output, a sentence to standard error, and the program ends with status 1.
-fn refuse(rt: &HostRuntime, refusal: Refusal) -> anyhow::Result<()> {
+fn refuse(rt: &HostRuntime, refusal: Refusal) -> anyhow::Result<ExitCode> {
     let fault = report::sheet_fault(&refusal);
     println!(rt; "{fault}")?;
     eprintln!(rt; "quote: {refusal}")?;
-    Err(anyhow!("the sheet is refused"))
+    Ok(ExitCode::FAILURE)
 }
 
-fn main(rt: HostRuntime) -> anyhow::Result<()> {
+fn main(rt: HostRuntime) -> anyhow::Result<ExitCode> {
     let mut buffer = [0u8; MOST_READ];
     let count = fill(&mut rt.stdin(), &mut buffer)?;
     let mut entries = [UNUSED; 256];

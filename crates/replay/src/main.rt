@@ -4,13 +4,13 @@
 mod script;
 mod telling;
 
-use anyhow::anyhow;
 use history::{Answer, Call, replay_both};
 use octets::ByteSource;
 use packed::PackedSource;
 use rates::exact::ExactRate;
 use std::alloc::{AllocError, Global};
 use std::io;
+use std::process::ExitCode;
 
 // The floor has as many rows as columns.
 const SIDE: usize = 16;
@@ -50,13 +50,16 @@ fn run(rt: &HostRuntime, calls: &[Call]) -> anyhow::Result<()> {
 }
 
 // Every line is read before the first call is put, so a bad line leaves nothing half done.
-fn main(rt: HostRuntime) -> anyhow::Result<()> {
+fn main(rt: HostRuntime) -> anyhow::Result<ExitCode> {
     let text = io::read_to_string(rt.alloc(), rt.stdin())?;
     match script::read(rt.alloc(), text.as_str()) {
-        Ok(calls) => run(&rt, calls.as_slice()),
+        Ok(calls) => {
+            run(&rt, calls.as_slice())?;
+            Ok(ExitCode::SUCCESS)
+        }
         Err(fault) => {
             eprintln!(rt; "replay: {fault}")?;
-            Err(anyhow!("a line is not a call"))
+            Ok(ExitCode::FAILURE)
         }
     }
 }
