@@ -16,7 +16,6 @@ import sys
 
 WORD = r"[^\s(){}\[\],;.\"`|]+"
 DECLARED = re.compile(r"^\s*(?:(?:abbrev|unfoldable)\s+)?(?:pub\s+)?(?:(?:data|record)\s+)?(" + WORD + r")\s+(?::|\(|\{)")
-STEP = re.compile(r"(?:^|[\s(,])(?:[cwlg]|goal|need|given)(?:\.[^\s(){}\[\],;]+)?$")
 KEPT = {"IsPermutation-swap", "drop-set-lt"}
 # Where the plain spelling is another's already.
 OTHERS = {"bit-and": "bit_of_and", "bit-or": "bit_of_or", "read-on": "reads_on", "distinct-getD": "distinct_get_or"}
@@ -50,9 +49,9 @@ def camel(name):
     return "".join(p[:1].upper() + p[1:] for p in parts)
 
 
-def ours(text, own):
+def answers(path):
     """Whether a file answers goals: only there do generated names stand."""
-    return own.endswith(("Answers.antt", "Invariants.antt", "Proof.antt"))
+    return path.endswith(("Answers.antt", "Invariants.antt", "Proof.antt"))
 
 
 def declared():
@@ -173,7 +172,7 @@ def main():
     for path in files(".antt"):
         text = read(path)
         crate = path.split(os.sep)[1]
-        write(path, respell_proof(text, new, names.get(crate, [])) if ours(text, path) else respell(text, new))
+        write(path, respell_proof(text, new, names.get(crate, [])) if answers(path) else respell(text, new))
     for path in files(".rt"):
         write(path, respell_source(read(path), new))
     for folder in (".", "docs"):

@@ -2,7 +2,7 @@
 ghost use Rattle.std.specs.Prelude.{◌≡◌, ℕ, ◌+◌, ◌^◌, ◌<◌, length, drop, IfErr, slice_index_or};
 ghost use Rattle.floor.specs.Tally.{plus};
 ghost use Rattle.floor.specs.Plans.{legal};
-ghost use Rattle.cheapest.specs.Cheapest.{Leg, legs as legs-of};
+ghost use Rattle.cheapest.specs.Cheapest.{Leg, legs as legs_of};
 ghost use Rattle.lengths.specs.Questions.{first_no, places as places_of};
 ghost use Rattle.planner.specs.Loops.{loop_questions};
 ghost use Rattle.planner.specs.Touring.{between, Unsearched, Toured};
@@ -36,7 +36,7 @@ fn refused(cells: &[Cell], room: usize) -> Option<LoopRefusal>
 // The two ends of a leg, counted from 0.
 fn leg_ends(cells: &[Cell], leg: usize) -> (Cell, Cell)
     requires { leg < length cells.now }
-    ensures { (other : Leg) → slice_index_or (legs-of cells.now) leg other ≡ between result.0 result.1 }
+    ensures { (other : Leg) → slice_index_or (legs_of cells.now) leg other ≡ between result.0 result.1 }
 {
     if leg + 1 < cells.len() {
         (cells[leg], cells[leg + 1])

@@ -2,7 +2,7 @@
 #![tactic(auto)]
 
 ghost use Rattle.std.specs.Prelude.{◌≡◌, ℕ, ◌+◌, ◌≤◌, [], ◌++◌, length, take, IfOk, OnOk};
-ghost use Rattle.writing.specs.Fronts.{over as over-front, Wrote};
+ghost use Rattle.writing.specs.Fronts.{over as over_front, Wrote};
 ghost use Rattle.sheet.specs.Format.{lines};
 ghost use Rattle.sheet.specs.Meaning.{same_cell, named, same_mark, has_panel, admitted, added, read_on, reading_of, answered, over};
 ghost use Rattle.sheet.specs.Accepted.{Accepted};
@@ -181,7 +181,7 @@ fn put_marked(cells: &mut [Cell], at: usize, entries: &[Entry], mark: Mark) -> u
 pub fn put_run(entries: &[Entry], cells: &mut [Cell]) -> usize
     requires { length entries.now ≤ length cells.old }
     ensures length { result ≡ length (run_of entries.now) }
-    ensures list { cells.new ≡ over-front (run_of entries.now) cells.old }
+    ensures list { cells.new ≡ over_front (run_of entries.now) cells.old }
     ensures within { result ≤ length entries.now }
 {
     let next = put_marked(cells, 0, entries, Mark::Panel);
