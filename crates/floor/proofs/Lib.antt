@@ -7,3 +7,4 @@ pub mod Runs
 pub mod Kept
 pub mod Jumps
 pub mod Steps
+pub mod Shifting

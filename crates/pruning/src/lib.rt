@@ -1,7 +1,6 @@
 // Of all legal routes it is enough to follow chains of successors: the theorems, and the successors as code.
 #![tactic(auto)]
 
-mod drifts;
 mod facts;
 mod goings;
 mod successors;

@@ -6,8 +6,7 @@ ghost use Rattle.floor.specs.Jumps.{walk};
 ghost use Rattle.floor.specs.Places.{many};
 ghost use Rattle.pruning.specs.Successors.{Leads, Lands, Sighted, nearest, far_of};
 
-use crate::drifts::{Drift, drift_across, drift_down};
-use floor::{Cell, Counts, Heading};
+use floor::{Cell, Counts, Heading, Shift};
 use source::JumpSource;
 
 // A leap to a successor: the cell where it ends, and the counts of its steps.
@@ -27,7 +26,7 @@ pub fn successor<S: JumpSource>(
     ensures exact { Leads (S.JumpSource.meaning source.now) cell heading target result }
     ensures lands { Lands (S.JumpSource.meaning source.now) result }
 {
-    let (steps, live) = source.jump(cell, heading.number());
+    let (steps, live) = source.jump(cell, u8::from(heading));
     let steps = far(sighting(cell, heading, target), usize::from(steps), live)?;
     Some(Leap {
         cell: walked(cell, heading, steps),
@@ -50,13 +49,13 @@ fn far(sighted: Option<usize>, steps: usize, live: bool) -> Option<usize>
 fn sighting(cell: Cell, heading: Heading, target: Cell) -> Option<usize>
     ensures { Sighted (point target) heading (point cell) result }
 {
-    let down = drift_down(heading);
-    let across = drift_across(heading);
+    let down = heading.down();
+    let across = heading.across();
     let rows = down.steps_between(cell.row, target.row);
     let cols = across.steps_between(cell.col, target.col);
     match (down, across) {
-        (Drift::Still, _) => if cell.row == target.row { cols } else { None },
-        (_, Drift::Still) => if cell.col == target.col { rows } else { None },
+        (Shift::Same, _) => if cell.row == target.row { cols } else { None },
+        (_, Shift::Same) => if cell.col == target.col { rows } else { None },
         _ => nearer(rows, cols),
     }
 }
@@ -78,8 +77,8 @@ fn walked(cell: Cell, heading: Heading, steps: usize) -> Cell
     ensures { point result ≡ walk heading steps (point cell) }
 {
     Cell {
-        row: drift_down(heading).carry(cell.row, steps),
-        col: drift_across(heading).carry(cell.col, steps),
+        row: heading.down().carry(cell.row, steps),
+        col: heading.across().carry(cell.col, steps),
     }
 }
 

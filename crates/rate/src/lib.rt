@@ -12,6 +12,7 @@ use floor::Counts;
 use std::cmp::Ordering;
 
 // What the first of two counts costs, beside the second.
+// Kept: a rate answers in the words of costs; `Ordering` says less and greater, and would be no plainer.
 #[derive(Clone, Copy, PartialEq, Eq, Debug)]
 pub enum Comparison {
     Cheaper,
@@ -21,6 +22,7 @@ pub enum Comparison {
 
 impl Comparison {
     // How one amount stands beside another.
+    // Kept: a `From<Ordering>` would need a definition of its own for this one call, and be no plainer.
     pub fn of(first: u64, second: u64) -> Comparison
         ensures { result ≡ compared first second }
     {

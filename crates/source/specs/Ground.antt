@@ -3,9 +3,9 @@ use Rattle.std.specs.Prelude.{◌≡◌, ℕ, ◌+◌, Bool, true, false, not, �
 use Rattle.floor.specs.declared.Cell.{Cell}
 use Rattle.floor.specs.declared.Heading.{Heading}
 use Rattle.floor.specs.declared.Side.TheVariants.{Left, Right}
-use Rattle.floor.specs.Plane.{point, turn, diagonal, step}
+use Rattle.floor.specs.Plane.{Point, point, turn, diagonal, step}
 use Rattle.floor.specs.Plans.{Plan, opens, legal}
-use Rattle.floor.specs.Jumps.{straight_jump, diagonal_jump}
+use Rattle.floor.specs.Jumps.{scan, straight_jump, diagonal_jump}
 
 -- no corner is cut: the two cells beside a diagonal step are open
 abbrev pub clear_of_corners : Plan → Cell → Heading → Bool
@@ -23,6 +23,14 @@ stops_at p c d h = side_opens p c d (turn Left (turn Left h)) || side_opens p c 
 abbrev pub LegalStep : Plan → Cell → Heading → Option Cell → Type 0
 LegalStep p c h (Some d) = (legal (opens p) (point c) h ≡ true) × (point d ≡ step h (point c))
 LegalStep p c h None = legal (opens p) (point c) h ≡ false
+
+-- from a point, legal steps up to the first that ends at a mark: how many, and whether there is such a one
+abbrev pub scanned : Plan → (Point → Bool) → Heading → Point → ℕ × Bool
+scanned p mark h x = scan (opens p) mark h (p.rows + p.cols) x
+
+-- a question about the two cells of a step tells whether it ends at a mark
+abbrev pub Tells : (Cell → Cell → Bool → Type 0) → Heading → (Point → Bool) → Type 0
+Tells answers h mark = (c d : Cell) (b : Bool) → point d ≡ step h (point c) → answers c d b → mark (point c) ≡ b
 
 -- the straight and the diagonal jumps of a plan
 abbrev pub straight_from : Plan → Cell → Heading → ℕ × Bool

@@ -1,4 +1,6 @@
+pub mod Few
 pub mod Ground
 pub mod Labels
 pub mod Sizes
 pub mod Drawing
+pub mod Within

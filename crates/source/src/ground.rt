@@ -1,9 +1,9 @@
 // Ground to walk on: from the question whether a cell is open follow the steps, the stops and the jumps.
-ghost use Rattle.std.specs.Prelude.{◌≡◌, true, false};
-ghost use Rattle.floor.specs.Plane.{point, diagonal, step};
+ghost use Rattle.std.specs.Prelude.{◌≡◌, Bool, true, false};
+ghost use Rattle.floor.specs.Plane.{Point, point, diagonal, step};
 ghost use Rattle.floor.specs.Plans.{Plan, Sized, opens, is_open};
 ghost use Rattle.floor.specs.Jumps.{jump_of};
-ghost use Rattle.source.specs.Ground.{clear_of_corners, side_opens, stops_at, LegalStep, straight_from, diagonal_from, live_beside};
+ghost use Rattle.source.specs.Ground.{clear_of_corners, side_opens, stops_at, LegalStep, scanned, Tells, straight_from, diagonal_from, live_beside};
 
 use floor::{Cell, Heading, Side};
 
@@ -20,10 +20,7 @@ pub trait Ground {
     fn is_free_on(&self, cell: Cell, towards: Heading) -> bool
         ensures { result ≡ opens (plan self.now) (step towards (point cell)) }
     {
-        match cell.stepped(towards) {
-            Some(next) => self.is_free(next),
-            None => false,
-        }
+        cell.stepped(towards).is_some_and(|next| self.is_free(next))
     }
 
     // A diagonal step needs the two cells beside it open too.
@@ -62,21 +59,34 @@ pub trait Ground {
             || self.opens_up(cell, next, towards.turn(Side::Right).turn(Side::Right))
     }
 
-    // Legal steps up to the first that ends at a stop.
-    fn straight_jump(&self, cell: Cell, towards: Heading) -> (u16, bool)
-        requires { diagonal towards ≡ false }
-        ensures { result ≡ straight_from (plan self.now) cell towards }
+    // Legal steps up to the first of which a question about its two cells is answered yes.
+    fn jump_until<F: Fn(Cell, Cell) -> bool>(
+        &self,
+        cell: Cell,
+        towards: Heading,
+        ends: F,
+    ) -> (u16, bool)
+        requires { F.IsAlwaysCallable ends }
+        ensures { (mark : Point → Bool) → Tells (F.post ends) towards mark → result ≡ scanned (plan self.now) mark towards (point cell) }
     {
         let mut steps: u16 = 0;
         let mut at = cell;
         while let Some(next) = self.legal_step(at, towards) {
             steps += 1;
-            if self.makes_stop(at, next, towards) {
+            if ends(at, next) {
                 return (steps, true);
             }
             at = next;
         }
         (steps, false)
+    }
+
+    // Legal steps up to the first that ends at a stop.
+    fn straight_jump(&self, cell: Cell, towards: Heading) -> (u16, bool)
+        requires { diagonal towards ≡ false }
+        ensures { result ≡ straight_from (plan self.now) cell towards }
+    {
+        self.jump_until(cell, towards, |at, next| self.makes_stop(at, next, towards))
     }
 
     // Whether a straight jump beside a diagonal heading is live.
@@ -93,23 +103,14 @@ pub trait Ground {
         requires { diagonal towards ≡ true }
         ensures { result ≡ diagonal_from (plan self.now) cell towards }
     {
-        let mut steps = 0;
-        let mut at = cell;
-        while let Some(next) = self.legal_step(at, towards) {
-            steps += 1;
-            if self.is_live_beside(next, towards) {
-                return (steps, true);
-            }
-            at = next;
-        }
-        (steps, false)
+        self.jump_until(cell, towards, |_, next| self.is_live_beside(next, towards))
     }
 
     // The jump with a heading's number; above 7 there is none.
     fn jump_on(&self, cell: Cell, heading: u8) -> (u16, bool)
         ensures { result ≡ jump_of (plan self.now) cell heading }
     {
-        let Some(towards) = Heading::numbered(heading) else {
+        let Ok(towards) = Heading::try_from(heading) else {
             return (0, false);
         };
         if towards.is_diagonal() {

@@ -37,6 +37,7 @@ pub fn labels<S: JumpSource>(source: &S, cell: Cell) -> [u16; 8]
     ensures made { (h : ℕ) → h < 8 → slice_index result h ≡ label_of (jump_of (S.JumpSource.meaning source.now) cell h) }
     ensures back { (h : ℕ) → h < 8 → said_by (slice_index result h) ≡ jump_of (S.JumpSource.meaning source.now) cell h }
 {
+    // Kept: it is a rule of the project that the array of eight is filled heading by heading.
     let mut all = [0u16; 8];
     for heading in 0..8 {
         let (steps, live) = source.jump(cell, heading as u8);

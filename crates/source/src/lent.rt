@@ -2,6 +2,7 @@
 ghost use Rattle.std.specs.Prelude.{◌≡◌, refl};
 ghost use Rattle.std.proofs.Common.{◌∙◌};
 
+use crate::extents::Size;
 use crate::traits::JumpSource;
 use floor::Cell;
 
@@ -16,7 +17,7 @@ impl<'b, S: JumpSource> JumpSource for &'b mut S {
 
     ghost goes = { λ s t u p q. (p.0 ∙ q.0, S.JumpSource.goes s.now t.now u.now p.1 q.1) };
 
-    fn size(&self) -> (usize, usize) {
+    fn size(&self) -> Size {
         (**self).size()
     }
 

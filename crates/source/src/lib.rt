@@ -2,14 +2,18 @@
 #![tactic(auto)]
 
 mod drawing;
+mod extents;
 mod ground;
 mod labelling;
 mod lent;
+mod memory;
 mod sizes;
 mod traits;
 
 pub use drawing::open_all;
+pub use extents::Size;
 pub use ground::Ground;
 pub use labelling::{label, labels, read_label};
+pub use memory::OnMemory;
 pub use sizes::{SizeRefusal, size_check};
 pub use traits::JumpSource;

@@ -1,33 +1,34 @@
 // The size check that every source puts before it is made.
-ghost use Rattle.std.specs.Prelude.{◌≡◌};
+ghost use Rattle.std.specs.Prelude.{◌≡◌, IfOk};
+ghost use Rattle.std.specs.Result.{result_map_both};
 ghost use Rattle.source.specs.Sizes.{size_number, size_answer};
 
-// Why no plan is made.
+use crate::extents::Size;
+
+// Why no plan is made, with the number of each refusal.
 #[derive(Clone, Copy, PartialEq, Eq, Debug)]
 pub enum SizeRefusal {
     // Rows and columns are 1 to 128 each.
-    Extent,
+    Extent = 10,
     // The memory is too short for a plan of this size.
-    Memory,
+    Memory = 11,
 }
 
 impl SizeRefusal {
     pub fn number(self) -> u8
         ensures { result ≡ size_number self }
     {
-        match self {
-            SizeRefusal::Extent => 10,
-            SizeRefusal::Memory => 11,
-        }
+        self as u8
     }
 }
 
 // How many rows, and how many columns, a plan has at most.
 const LIMIT: usize = 128;
 
-// Whether a plan of this size can be made where `have` entries of memory are lent and the source takes `need` of them.
-pub fn size_check(rows: usize, cols: usize, have: usize, need: usize) -> Result<(), SizeRefusal>
-    ensures { result ≡ size_answer rows cols have need }
+// The size of a plan of so many rows and columns, if it can be made where `have` entries of memory are lent and the source takes `need` of them.
+pub fn size_check(rows: usize, cols: usize, have: usize, need: usize) -> Result<Size, SizeRefusal>
+    ensures answer { result_map_both (λ _. tt) (λ e. e) result ≡ size_answer rows cols have need }
+    ensures size { IfOk result (λ s. (s.rows ≡ rows) × (s.cols ≡ cols)) }
 {
     if rows < 1 || rows > LIMIT || cols < 1 || cols > LIMIT {
         return Err(SizeRefusal::Extent);
@@ -35,5 +36,5 @@ pub fn size_check(rows: usize, cols: usize, have: usize, need: usize) -> Result<
     if have < need {
         return Err(SizeRefusal::Memory);
     }
-    Ok(())
+    Ok(Size { rows, cols })
 }

@@ -3,6 +3,7 @@ ghost use Rattle.std.specs.Prelude.{◌≡◌, Bool, true, false, cond};
 ghost use Rattle.floor.specs.Plans.{Plan, Sized, inside, is_open, marked};
 ghost use Rattle.floor.specs.Jumps.{jump_of};
 
+use crate::extents::Size;
 use floor::Cell;
 
 pub trait JumpSource {
@@ -19,8 +20,8 @@ pub trait JumpSource {
     ghost goes: { (s t u : Self) → lent s t → lent t u → lent s u };
 
     // Rows and columns.
-    fn size(&self) -> (usize, usize)
-        ensures { (result.0 ≡ (meaning self.now).rows) × (result.1 ≡ (meaning self.now).cols) };
+    fn size(&self) -> Size
+        ensures { (result.rows ≡ (meaning self.now).rows) × (result.cols ≡ (meaning self.now).cols) };
 
     // Whether a cell is open; one outside is not.
     fn is_open(&self, cell: Cell) -> bool
@@ -34,6 +35,7 @@ pub trait JumpSource {
         ensures kept { lent self.old self.new };
 
     // The jump from a cell with a heading's number: its steps, and whether it is live.
+    // Kept: it is a rule of the project that any number may be asked, and that steps and live are answered as a pair.
     fn jump(&self, cell: Cell, heading: u8) -> (u16, bool)
         ensures { result ≡ jump_of (meaning self.now) cell heading };
 }

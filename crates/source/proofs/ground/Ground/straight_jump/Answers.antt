@@ -1,29 +1,13 @@
-use Rattle.std.proofs.Common.{◌≡◌, true, false, arith}
+use Rattle.std.proofs.Common.{rules, ◌≡◌}
 use Rattle.floor.specs.Plane.{point}
 use Rattle.floor.proofs.Jumps.{straight_mark}
-use Rattle.source.proofs.Walks.{stops_by, goes_on, fewer_left, ends_live, ends_dead, few_steps}
-use Rattle.source.proofs.ground.Ground.straight_jump.Given as given
+use Rattle.source.specs.Ground.{stops_at}
+use Rattle.source.proofs.Walks.{stops_by}
 use Rattle.source.proofs.ground.Ground.straight_jump.Goals as goal
 
-pub overflow_add-steps : goal.overflow_add-steps
-overflow_add-steps g c = omega (arith, few_steps _ _ _ (g.Self.Ground.small c.args.self.now) _ _ _ c.loop-next.invariant)
-
-pub returns-then-makes_stop : goal.returns-then-makes_stop
-returns-then-makes_stop g c =
-    let step = c.in-Some.ensures in
-    ends_live _ _ _ _ _ _ c.loop-next.invariant step.0
-    (stops_by (g.Self.Ground.plan c.args.self.now) c.loop-next.at c.in-Some.next c.args.towards step.1 true c.if-makes_stop.ensures)
-
--- where the walk goes on, no mark was met
-unmarked : (g : given.Over) (c : goal.Else-makes_stop g) → straight_mark (g.Self.Ground.plan c.args.self.now) c.args.towards (point c.loop-next.at) ≡ false
-unmarked g c =
-    stops_by (g.Self.Ground.plan c.args.self.now) c.loop-next.at c.in-Some.next c.args.towards c.in-Some.ensures.1 false c.if-makes_stop.ensures
-
-pub loop-next-smaller : goal.loop-next-smaller
-loop-next-smaller g c = fewer_left _ _ _ _ _ c.in-Some.ensures.0 (unmarked g c) c.in-Some.ensures.1
-
-pub loop-next-preserved : goal.loop-next-preserved
-loop-next-preserved g c = goes_on _ _ _ _ _ _ _ c.loop-next.invariant c.in-Some.ensures.0 (unmarked g c) c.in-Some.ensures.1
-
 pub returns : goal.returns
-returns g c = ends_dead _ _ _ _ _ _ c.loop-next.invariant c.in_default.ensures
+returns g c =
+    let p = g.Self.Ground.plan c.args.self.now in
+    let h = c.args.towards in
+    c.jump_until.ensures (straight_mark p h)
+    (λ a d b e q. let at : b ≡ stops_at p a d h → straight_mark p h (point a) ≡ b = stops_by p a d h e b in search (rules, at, q))

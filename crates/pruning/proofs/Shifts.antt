@@ -1,80 +1,28 @@
--- Rows and columns along a heading: each drifts by itself, so a target is sighted where a drift meets its row or its column.
-use Rattle.std.proofs.Common.{◌≡◌, ℕ, zero, suc, ◌+◌, ◌-◌, ◌<◌, ◌≤◌, Bool, true, false, cond, ◌&&◌, ◌||◌, eqb, ltb, ℤ, pos, negsuc, ◌+ℤ◌, Some, None, Option, sym, refl, ap, ◌∙◌, subst, inl, inr, arith}
+-- Rows and columns along a heading: each is shifted by itself, so a target is sighted where a shift meets its row or its column.
+use Rattle.std.proofs.Common.{◌≡◌, ℕ, zero, suc, ◌<◌, ◌≤◌, Bool, true, false, cond, ◌&&◌, ◌||◌, eqb, ltb, ℤ, pos, negsuc, Some, None, Option, sym, refl, ap, ◌∙◌, subst, inl, inr, arith}
 use borrow.Author.Differences.{ints}
-use Rattle.std.proofs.lemmas.Bool.{cases_Bool, cases_eq, and_left, and_right, or_left, or_right, or_from, cond-true, cond-false, cond_both, eqb-true, eq-eqb, ne_eqb, ltb-true, ltb-false, false≢true}
+use Rattle.std.proofs.lemmas.Bool.{cases_Bool, cases_eq, and_left, and_right, or_left, or_right, or_from, cond-true, cond-false, eqb-true, eq-eqb, ne_eqb, ltb-true, ltb-false, false≢true}
 use Rattle.floor.specs.declared.Cell.{Cell}
 use Rattle.floor.specs.declared.Heading.{Heading}
 use Rattle.floor.specs.Plane.{Point, point, diagonal, down, across, step}
 use Rattle.floor.specs.Jumps.{walk}
 use Rattle.floor.specs.Places.{same_int, sights}
 use Rattle.floor.proofs.Plane.{each}
-use Rattle.pruning.specs.declared.drifts.Drift.{Drift}
-use Rattle.pruning.specs.declared.drifts.Drift.TheVariants.{Back, Still, Forth}
-use Rattle.pruning.specs.Successors.{by, drifted, Meets, Sighted, nearest}
+use Rattle.floor.specs.declared.shifts.Shift.{Shift}
+use Rattle.floor.specs.declared.shifts.Shift.TheVariants.{Less, Same, More}
+use Rattle.floor.specs.Steps.{by, shifted, Meets}
+use Rattle.floor.proofs.Shifting.{shifted_same}
+use Rattle.pruning.specs.Successors.{Sighted, nearest}
 use Rattle.pruning.proofs.Sightings.{same_int_from}
-
--- ---- where a drift leads
-
-drifted_forth : (k : ℕ) (z : ℤ) → drifted (pos 1) k z ≡ z +ℤ pos k
-drifted_forth zero z = omega (arith, ints)
-drifted_forth (suc k) z = omega (arith, ints, drifted_forth k (z +ℤ pos 1))
-
-drifted_back : (k : ℕ) (z : ℤ) → drifted (negsuc 0) k z +ℤ pos k ≡ z
-drifted_back zero z = omega (arith, ints)
-drifted_back (suc k) z = omega (arith, ints, drifted_back k (z +ℤ negsuc 0))
-
-drifted_still : (k : ℕ) (z : ℤ) → drifted (pos 0) k z ≡ z
-drifted_still zero z = refl
-drifted_still (suc k) z = omega (arith, ints, drifted_still k (z +ℤ pos 0))
-
--- from and to, k steps apart
-abbrev pub Apart : Drift → ℕ → ℕ → ℕ → Type 0
-Apart Back k from to = to + k ≡ from
-Apart Still k from to = to ≡ from
-Apart Forth k from to = to ≡ from + k
-
-pub apart : (d : Drift) (k from to : ℕ) → drifted (by d) k (pos from) ≡ pos to → Apart d k from to
-apart Back k from to e = omega (arith, ints, drifted_back k (pos from))
-apart Still k from to e = omega (arith, ints, drifted_still k (pos from))
-apart Forth k from to e = omega (arith, ints, drifted_forth k (pos from))
-
-pub from_apart : (d : Drift) (k from to : ℕ) → Apart d k from to → drifted (by d) k (pos from) ≡ pos to
-from_apart Back k from to e = omega (arith, ints, drifted_back k (pos from))
-from_apart Still k from to e = omega (arith, ints, drifted_still k (pos from))
-from_apart Forth k from to e = omega (arith, ints, drifted_forth k (pos from))
-
--- how far one number lies past another, if it does
-abbrev past : ℕ → ℕ → Option ℕ
-past low high = cond (ltb low high) (Some (high - low)) None
-
-by_past : (P : Option ℕ → Type 0) (low high : ℕ) → (low < high → P (Some (high - low))) → (high ≤ low → P None) → P (past low high)
-by_past P low high y n = cond_both (ltb low high) _ _ P (λ e. y (ltb-true low high e)) (λ e. n (ltb-false low high e))
-
-meets_as : {d e : Drift} {o q : Option ℕ} (from to : ℕ) → d ≡ e → o ≡ q → Meets e from to q → Meets d from to o
-meets_as {d} {e} {o} {q} from to u v m = subst (λ a. Meets a from to o) (sym u) (subst (Meets e from to) (sym v) m)
-
-pub meets_back : {d : Drift} {o : Option ℕ} (from to : ℕ) → d ≡ Back → o ≡ past to from → Meets d from to o
-meets_back {d} {o} from to u v =
-    meets_as from to u v
-    (by_past (Meets Back from to) to from
-    (λ l. (omega arith, from_apart Back (from - to) from to (omega arith), λ i e. omega (arith, apart Back i from to e)))
-    (λ l moves i m e. omega (arith, apart Back i from to e)))
-
-pub meets_forth : {d : Drift} {o : Option ℕ} (from to : ℕ) → d ≡ Forth → o ≡ past from to → Meets d from to o
-meets_forth {d} {o} from to u v =
-    meets_as from to u v
-    (by_past (Meets Forth from to) from to
-    (λ l. (omega arith, from_apart Forth (to - from) from to (omega arith), λ i e. omega (arith, apart Forth i from to e)))
-    (λ l moves i m e. omega (arith, apart Forth i from to e)))
 
 -- ---- walks by row and column
 
-pub walk_row : (h : Heading) (k : ℕ) (x : Point) → (walk h k x).row ≡ drifted (down h) k x.row
+pub walk_row : (h : Heading) (k : ℕ) (x : Point) → (walk h k x).row ≡ shifted (down h) k x.row
 unfolding step
 walk_row h zero x = refl
 walk_row h (suc k) x = walk_row h k (step h x)
 
-pub walk_col : (h : Heading) (k : ℕ) (x : Point) → (walk h k x).col ≡ drifted (across h) k x.col
+pub walk_col : (h : Heading) (k : ℕ) (x : Point) → (walk h k x).col ≡ shifted (across h) k x.col
 unfolding step
 walk_col h zero x = refl
 walk_col h (suc k) x = walk_col h k (step h x)
@@ -102,14 +50,14 @@ apart_ints e = omega (arith, ints)
 one_zero : pos 1 ≡ pos 0 → ⊥
 one_zero e = omega (arith, ints)
 
-module _ (d : Drift) (from to : ℕ) where
+module _ (d : Shift) (from to : ℕ) where
   meeting : ℕ → Bool
-  meeting i = same_int (drifted (by d) i (pos from)) (pos to)
+  meeting i = same_int (shifted (by d) i (pos from)) (pos to)
 
-  only : (o : Option ℕ) → (d ≡ Still → ⊥) → Meets d from to o → (i : ℕ) → 1 ≤ i → meeting i ≡ hits o i
+  only : (o : Option ℕ) → (d ≡ Same → ⊥) → Meets d from to o → (i : ℕ) → 1 ≤ i → meeting i ≡ hits o i
   unfolding meeting
   only (Some k) moves m i l = elim (cases_eq i k) [
-    | inl e ↦ same_int_from (subst (λ j. drifted (by d) j (pos from) ≡ pos to) (sym e) m.1) ∙ sym (eq-eqb i k e)
+    | inl e ↦ same_int_from (subst (λ j. shifted (by d) j (pos from) ≡ pos to) (sym e) m.1) ∙ sym (eq-eqb i k e)
     | inr n ↦ elim (cases_Bool (meeting i)) [
       | inl t ↦ absurd (n (m.2 i (same_int_is _ _ t)))
       | inr f ↦ f ∙ sym (ne_eqb i k n)
@@ -120,9 +68,9 @@ module _ (d : Drift) (from to : ℕ) where
     | inr f ↦ f
   ]
 
-  still : d ≡ Still → (i : ℕ) → meeting i ≡ eqb from to
+  still : d ≡ Same → (i : ℕ) → meeting i ≡ eqb from to
   unfolding meeting
-  still e i = ap (λ z. same_int z (pos to)) (subst (λ b. drifted (by b) i (pos from) ≡ pos from) (sym e) (drifted_still i (pos from)))
+  still e i = ap (λ z. same_int z (pos to)) (subst (λ b. shifted (by b) i (pos from) ≡ pos from) (sym e) (shifted_same i (pos from)))
 
   positive : (o : Option ℕ) → Meets d from to o → Positive o
   positive (Some k) m = m.0
@@ -166,23 +114,23 @@ slanting : (h : Heading) → (down h ≡ pos 0 → ⊥) → (across h ≡ pos 0 
 slanting = each (λ h. (down h ≡ pos 0 → ⊥) → (across h ≡ pos 0 → ⊥) → diagonal h ≡ true)
     (λ r c. absurd (c refl)) (λ r c. refl) (λ r c. absurd (r refl)) (λ r c. refl) (λ r c. absurd (c refl)) (λ r c. refl) (λ r c. absurd (r refl)) (λ r c. refl)
 
-still_by : (d : Drift) → by d ≡ pos 0 → d ≡ Still
-still_by Back e = absurd (apart_ints e)
-still_by Still e = refl
-still_by Forth e = absurd (one_zero e)
+still_by : (d : Shift) → by d ≡ pos 0 → d ≡ Same
+still_by Less e = absurd (apart_ints e)
+still_by Same e = refl
+still_by More e = absurd (one_zero e)
 
 and_true : (b : Bool) → (b && true) ≡ b
 and_true true = refl
 and_true false = refl
 
-module _ (c t : Cell) (h : Heading) (d e : Drift) (rows : by d ≡ down h) (cols : by e ≡ across h) where
+module _ (c t : Cell) (h : Heading) (d e : Shift) (rows : by d ≡ down h) (cols : by e ≡ across h) where
   -- what a heading sights after i steps
   sees : (i : ℕ) → sights (point t) h (walk h i (point c)) ≡
       cond (diagonal h) (meeting d c.row t.row i || meeting e c.col t.col i) (meeting d c.row t.row i && meeting e c.col t.col i)
   unfolding meeting
   sees i =
-      let r : (walk h i (point c)).row ≡ drifted (by d) i (pos c.row) = walk_row h i (point c) ∙ ap (λ z. drifted z i (pos c.row)) (sym rows) in
-      let k : (walk h i (point c)).col ≡ drifted (by e) i (pos c.col) = walk_col h i (point c) ∙ ap (λ z. drifted z i (pos c.col)) (sym cols) in
+      let r : (walk h i (point c)).row ≡ shifted (by d) i (pos c.row) = walk_row h i (point c) ∙ ap (λ z. shifted z i (pos c.row)) (sym rows) in
+      let k : (walk h i (point c)).col ≡ shifted (by e) i (pos c.col) = walk_col h i (point c) ∙ ap (λ z. shifted z i (pos c.col)) (sym cols) in
       λ j. cond (diagonal h) (same_int (r j) (pos t.row) || same_int (k j) (pos t.col)) (same_int (r j) (pos t.row) && same_int (k j) (pos t.col))
 
   seen : ℕ → Bool
@@ -198,37 +146,37 @@ module _ (c t : Cell) (h : Heading) (d e : Drift) (rows : by d ≡ down h) (cols
   straight z i = sees i ∙ cond-false (diagonal h) _ _ z
 
   -- along a row
-  pub sighted_across : (o : Option ℕ) → d ≡ Still → c.row ≡ t.row → Meets e c.col t.col o → Sighted (point t) h (point c) o
+  pub sighted_across : (o : Option ℕ) → d ≡ Same → c.row ≡ t.row → Meets e c.col t.col o → Sighted (point t) h (point c) o
   sighted_across o s r m =
       let z : down h ≡ pos 0 = sym rows ∙ ap by s in
-      let moves : e ≡ Still → ⊥ = λ q. (level h z).1 (sym cols ∙ ap by q) in
+      let moves : e ≡ Same → ⊥ = λ q. (level h z).1 (sym cols ∙ ap by q) in
       sighted (hits o)
       (λ i l. straight (level h z).0 i ∙ ap (λ b. b && meeting e c.col t.col i) (still d c.row t.row s i ∙ eq-eqb _ _ r) ∙ only e c.col t.col o moves m i l)
       o (firsts_one o (positive e c.col t.col o m))
 
   -- along a column
-  pub sighted_down : (o : Option ℕ) → e ≡ Still → c.col ≡ t.col → Meets d c.row t.row o → Sighted (point t) h (point c) o
+  pub sighted_down : (o : Option ℕ) → e ≡ Same → c.col ≡ t.col → Meets d c.row t.row o → Sighted (point t) h (point c) o
   sighted_down o s r m =
       let z : across h ≡ pos 0 = sym cols ∙ ap by s in
-      let moves : d ≡ Still → ⊥ = λ q. (level h (sym rows ∙ ap by q)).1 z in
+      let moves : d ≡ Same → ⊥ = λ q. (level h (sym rows ∙ ap by q)).1 z in
       sighted (hits o)
       (λ i l. straight (upright h z) i ∙ ap (λ b. meeting d c.row t.row i && b) (still e c.col t.col s i ∙ eq-eqb _ _ r) ∙
       and_true (meeting d c.row t.row i) ∙ only d c.row t.row o moves m i l)
       o (firsts_one o (positive d c.row t.row o m))
 
   -- beside the target's row or column
-  pub sighted_not_across : d ≡ Still → (c.row ≡ t.row → ⊥) → Sighted (point t) h (point c) None
+  pub sighted_not_across : d ≡ Same → (c.row ≡ t.row → ⊥) → Sighted (point t) h (point c) None
   unfolding seen
   sighted_not_across s n i l =
       straight (level h (sym rows ∙ ap by s)).0 i ∙ and_left _ _ (still d c.row t.row s i ∙ ne_eqb _ _ n)
 
-  pub sighted_not_down : e ≡ Still → (c.col ≡ t.col → ⊥) → Sighted (point t) h (point c) None
+  pub sighted_not_down : e ≡ Same → (c.col ≡ t.col → ⊥) → Sighted (point t) h (point c) None
   unfolding seen
   sighted_not_down s n i l =
       straight (upright h (sym cols ∙ ap by s)) i ∙ and_right _ _ (still e c.col t.col s i ∙ ne_eqb _ _ n)
 
   -- on a diagonal: the nearer of row and column
-  pub sighted_nearer : (a b : Option ℕ) → (d ≡ Still → ⊥) → (e ≡ Still → ⊥) → Meets d c.row t.row a → Meets e c.col t.col b → Sighted (point t) h (point c) (nearest a b)
+  pub sighted_nearer : (a b : Option ℕ) → (d ≡ Same → ⊥) → (e ≡ Same → ⊥) → Meets d c.row t.row a → Meets e c.col t.col b → Sighted (point t) h (point c) (nearest a b)
   unfolding seen
   sighted_nearer a b u v m n =
       let z : diagonal h ≡ true = slanting h (λ q. u (still_by d (rows ∙ q))) (λ q. v (still_by e (cols ∙ q))) in
