@@ -5,10 +5,6 @@ use Rattle.floor.specs.Plans.{Plan, closed}
 use Rattle.source.specs.Sizes.{size_answer}
 use Rattle.source.specs.Drawing.{opened}
 
--- 1 to 128 rows and columns, or none of either
-abbrev pub Few : ℕ → ℕ → Type 0
-Few rows cols = (rows ≤ 128) × (cols ≤ 128) × (rows ≡ 0 → cols ≡ 0) × (cols ≡ 0 → rows ≡ 0)
-
 -- the plan that bytes mean: a cell inside is open where its byte is 0, and every other byte is closed
 abbrev pub plan_of : ℕ → ℕ → List ℕ → Plan
 plan_of rows cols bytes = record { rows = rows; cols = cols; free = λ r c. (nat_lt r rows && nat_lt c cols) && (slice_index bytes (r * cols + c) == 0) }

@@ -1,7 +1,7 @@
 // Jumps and labels on a floor of three rows and five columns that has one pillar, in the top row.
 use crate::layout::ByteSource;
 use floor::Cell;
-use source::{JumpSource, labels};
+use source::{JumpSource, SizeRefusal, labels};
 
 // Everything open but the second cell of the top row.
 fn one_pillar(memory: &mut [u8]) -> ByteSource<'_> {
@@ -50,29 +50,24 @@ fn jumps(rt: HostRuntime) {
 #[test]
 fn memory_past_the_plan(rt: HostRuntime) {
     let mut memory = [7; 20];
-    assert_eq!(rt; one_pillar(&mut memory).size(), (3, 5));
+    let size = one_pillar(&mut memory).size();
+    assert_eq!(rt; (size.rows, size.cols), (3, 5));
     assert_eq!(rt;
         memory,
         [0, 1, 0, 0, 0, 0, 0, 0, 0, 0, 0, 0, 0, 0, 0, 7, 7, 7, 7, 7]
     );
 }
 
-// The number of a refusal, 0 if there is none.
-fn number(rows: usize, cols: usize, bytes: usize) -> u8 {
-    match ByteSource::check(rows, cols, bytes) {
-        Ok(()) => 0,
-        Err(refusal) => refusal.number(),
-    }
-}
-
+// Rows, columns and bytes, and the number of the refusal.
 #[test]
 fn sizes(rt: HostRuntime) {
-    for (rows, cols, bytes, answer) in [
-        (128, 128, 16384, 0),
-        (0, 5, 20, 10),
-        (129, 5, 1000, 10),
-        (3, 7, 20, 11),
+    for (rows, cols, bytes, number) in [
+        (128, 128, 16384, None),
+        (0, 5, 20, Some(10)),
+        (129, 5, 1000, Some(10)),
+        (3, 7, 20, Some(11)),
     ] {
-        assert_eq!(rt; number(rows, cols, bytes), answer);
+        let answer = ByteSource::check(rows, cols, bytes);
+        assert_eq!(rt; answer.err().map(SizeRefusal::number), number);
     }
 }

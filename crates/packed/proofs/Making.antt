@@ -1,40 +1,18 @@
 -- A new plan: words of set bits are closed everywhere, in both halves and past the end of each line.
-use Rattle.std.proofs.Common.{◌≡◌, ℕ, ◌+◌, ◌-◌, ◌*◌, ◌%◌, ◌^◌, ◌<◌, ◌≤◌, min, Bool, true, false, cond, not, ◌&&◌, ltb, leb, List, length, get_or, drop, is_err, Ok, Err, Result, sym, ap, ◌∙◌, subst, inl, inr, true≢false, arith, MatchResult}
-use Rattle.std.proofs.lemmas.Bool.{cases_Bool, and_parts, ltb-true, leb-true}
+use Rattle.std.proofs.Common.{◌≡◌, ℕ, ◌+◌, ◌-◌, ◌*◌, ◌%◌, ◌^◌, ◌<◌, ◌≤◌, min, true, false, not, ◌&&◌, ltb, List, ◌++◌, length, get_or, take, drop, replicate, Ok, Err, Result, sym, refl, ap, ◌∙◌, subst, inl, inr, arith}
+use mathlib.Core.Path.{transport}
+use Rattle.std.proofs.lemmas.Bool.{cases_Bool, and_parts, ltb-true}
+use Rattle.std.proofs.lemmas.Result.{MatchResult-weaker}
 use Rattle.floor.specs.Plans.{closed}
+use Rattle.source.specs.declared.extents.Size.{Size}
 use Rattle.source.specs.declared.sizes.SizeRefusal.{SizeRefusal}
-use Rattle.source.specs.declared.sizes.SizeRefusal.TheVariants.{Extent, Memory}
-use Rattle.source.specs.Sizes.{within_limits, size_answer}
+use Rattle.source.specs.Sizes.{size_answer}
+use Rattle.source.proofs.Laid.{Gets, enough, all_long, all_filled, rest_kept}
 use Rattle.packed.specs.declared.halves.Half.{Half}
 use Rattle.packed.specs.Bits.{bit}
-use Rattle.packed.specs.Layout.{Few, line_words, by_rows, by_cols, words_needed, word_of, shut, plan_of, Laid, New}
+use Rattle.packed.specs.Layout.{line_words, by_rows, by_cols, words_needed, word_of, shut, plan_of, Laid, New, Made}
 use Rattle.packed.proofs.Digits.{bit_all}
 use Rattle.packed.proofs.Marking.{word_in}
-
--- ---- the size check
-
--- what is known where the check does not refuse
-pub passes : (rows cols have need : ℕ) → is_err (size_answer rows cols have need) ≡ false → Few rows cols × (need ≤ have)
-passes rows cols have need e = elim (cases_Bool (within_limits rows cols)) [
-  | inr out ↦ absurd (true≢false (sym (ap (λ b. is_err (answer b (leb need have))) out) ∙ e))
-  | inl small ↦ elim (cases_Bool (leb need have)) [
-    | inr short ↦ absurd (true≢false (sym (ap (λ b. is_err (answer b (leb need have))) small ∙ ap (λ b. is_err (answer true b)) short) ∙ e))
-    | inl long ↦
-        let halves = and_parts (leb 1 rows && leb rows 128) (leb 1 cols && leb cols 128) small in
-        let r = and_parts (leb 1 rows) (leb rows 128) halves.0 in
-        let c = and_parts (leb 1 cols) (leb cols 128) halves.1 in
-        let r₁ = leb-true 1 rows r.0 in
-        let c₁ = leb-true 1 cols c.0 in
-        ((leb-true rows 128 r.1, leb-true cols 128 c.1, λ z. omega arith, λ z. omega arith), leb-true need have long)
-  ]
-]
-  where
-    answer : Bool → Bool → Result (Unit {0}) SizeRefusal
-    answer small long = cond small (cond long (Ok tt) (Err Memory)) (Err Extent)
-
-pub cases_from_ok : {T E : Type 0} (r : Result T E) (P : T → Type 0) (Q : E → Type 0) → is_err r ≡ false → ((x : T) → P x) → MatchResult r P Q
-cases_from_ok (Ok x) P Q e p = p x
-cases_from_ok (Err y) P Q e p = absurd (true≢false e)
 
 -- ---- the words
 
@@ -70,20 +48,48 @@ module _ (rows cols : ℕ) (words : List ℕ) (fits : words_needed rows cols ≤
             rw (within, rows_shut r c (ltb-true r rows both.0) (omega (arith, ltb-true c cols both.1)))
       ]
 
--- what making leaves, where the check does not refuse
-pub made_new : (rows cols n : ℕ) (before after : List ℕ) → is_err (size_answer rows cols (length before) (words_needed rows cols)) ≡ false → n ≡ min (words_needed rows cols) (2 ^ 64 - 1) →
-    length before < 2 ^ 64 → length after ≡ length before → ((k : ℕ) → k < n → get_or after k 0 ≡ 2 ^ 64 - 1) → drop n after ≡ drop n before →
-    Few rows cols × New rows cols before (plan_of rows cols after) after
-made_new rows cols n before after passed is short same ones rest =
-    let ok = passes rows cols (length before) (words_needed rows cols) passed in
-    let all : n ≡ words_needed rows cols = omega (arith, ok.1) in
-    let fits : words_needed rows cols ≤ length after = omega (arith, ok.1) in
-    let closed-words : (k : ℕ) → k < words_needed rows cols → get_or after k 0 ≡ 2 ^ 64 - 1 = λ k l. ones k (omega arith) in (
-      ok.0,
-      record {
-        plan = making_closed rows cols after fits closed-words;
-        laid = making_laid rows cols after fits closed-words;
-        ones = closed-words;
-        rest = subst (λ k. drop k after ≡ drop k before) all rest;
-      },
-    )
+-- Memory on which a plan of this size was made: as many words as the plan needs were written with all bits set.
+module _ (rows cols : ℕ) (before written : List ℕ) (s : Size) (n : ℕ) (gets : Gets rows cols s (size_answer rows cols (length before) (words_needed rows cols)))
+    (count : n ≡ min (words_needed s.rows s.cols) (2 ^ 64 - 1)) (short : length before < 2 ^ 64) where
+  -- the memory is long enough for the size that the plan got
+  long_enough : words_needed s.rows s.cols ≤ length before
+  long_enough = at (size_answer rows cols (length before) (words_needed rows cols)) refl gets
+    where
+      at : (a : Result (Unit {0}) SizeRefusal) → size_answer rows cols (length before) (words_needed rows cols) ≡ a → Gets rows cols s a → words_needed s.rows s.cols ≤ length before
+      at (Ok _) passed e = subst (λ k. k ≤ length before) (λ i. words_needed (sym e.0 i) (sym e.1 i)) (enough rows cols (length before) (words_needed rows cols) passed)
+      at (Err _) refused e = let none : words_needed s.rows s.cols ≡ 0 = (λ i. words_needed (e.0 i) (e.1 i)) in omega (arith, none)
+
+  all : n ≡ words_needed s.rows s.cols
+  all = omega (arith, long_enough)
+
+  pub room : n ≤ length before
+  room = omega (arith, long_enough, all)
+
+  module _ (filled : written ≡ replicate (length (take n before)) (2 ^ 64 - 1)) where
+    abbrev now : List ℕ
+    now = written ++ drop n before
+
+    ones : (k : ℕ) → k < words_needed s.rows s.cols → get_or now k 0 ≡ 2 ^ 64 - 1
+    ones k b = all_filled (2 ^ 64 - 1) n before written room filled k (omega (arith, all))
+
+    fits : words_needed s.rows s.cols ≤ length now
+    fits = omega (arith, long_enough, all_long (2 ^ 64 - 1) n before written room filled)
+
+    pub made_laid : Laid s.rows s.cols now
+    made_laid = making_laid s.rows s.cols now fits ones
+
+    pub made_by : Made rows cols before (plan_of s.rows s.cols now) now
+    made_by = MatchResult-weaker (size_answer rows cols (length before) (words_needed rows cols)) gets
+        (λ _ e. transport (λ i. New (e.0 i) (e.1 i) before (plan_of s.rows s.cols now) now) new)
+        (λ _ e. record {
+          plan = making_closed s.rows s.cols now fits ones ∙ (λ i. closed (e.0 i) (e.1 i));
+          rest = subst (λ k. drop k now ≡ drop k before) (λ i. words_needed (e.0 i) (e.1 i)) new.rest;
+        })
+      where
+        new : New s.rows s.cols before (plan_of s.rows s.cols now) now
+        new = record {
+          plan = making_closed s.rows s.cols now fits ones;
+          laid = made_laid;
+          ones = ones;
+          rest = subst (λ k. drop k now ≡ drop k before) all (rest_kept (2 ^ 64 - 1) n before written room filled);
+        }

@@ -7,10 +7,6 @@ use Rattle.source.specs.Drawing.{opened}
 use Rattle.packed.specs.declared.halves.Half.{Half}
 use Rattle.packed.specs.Bits.{bit}
 
--- 1 to 128 rows and columns, or none of either
-abbrev pub Few : ℕ → ℕ → Type 0
-Few rows cols = (rows ≤ 128) × (cols ≤ 128) × (rows ≡ 0 → cols ≡ 0) × (cols ≡ 0 → rows ≡ 0)
-
 -- how many words a line of so many places takes
 abbrev pub line_words : ℕ → ℕ
 line_words long = (long + 63) / 64

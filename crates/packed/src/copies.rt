@@ -33,6 +33,7 @@ pub fn lines_around(words: &[u64], half: Half, line: usize) -> Lines
     requires inside { line < half.lines }
     ensures { Around words.now half line result }
 {
+    // Kept: a closure for `map_or` would need the clauses of `copy_line` once more, and be no plainer.
     let before = match line.checked_sub(1) {
         Some(before) => copy_line(words, half, before),
         None => OUTSIDE,

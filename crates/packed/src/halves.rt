@@ -1,6 +1,8 @@
 // Where the bits of a plan lie in its memory: once by rows, and after these once by columns.
 ghost use Rattle.std.specs.Prelude.{◌≡◌, ℕ, ◌+◌, ◌-◌, ◌*◌, ◌^◌, ◌<◌, ◌≤◌, min};
-ghost use Rattle.packed.specs.Layout.{Few, line_words, by_rows, by_cols, words_needed, word_of};
+ghost use Rattle.packed.specs.Layout.{line_words, by_rows, by_cols, words_needed, word_of};
+
+use source::Size;
 
 // How many places a word holds.
 pub const WORD: usize = 64;
@@ -15,25 +17,24 @@ pub struct Half {
 
 impl Half {
     // The rows come first, each with a place for each column.
-    pub fn by_rows(rows: usize, cols: usize) -> Half
-        ensures { result ≡ by_rows rows cols }
+    pub fn by_rows(size: Size) -> Half
+        ensures { result ≡ by_rows size.rows size.cols }
     {
         Half {
             from: 0,
-            lines: rows,
-            long: cols,
+            lines: size.rows,
+            long: size.cols,
         }
     }
 
     // The columns follow, each with a place for each row.
-    pub fn by_columns(rows: usize, cols: usize) -> Half
-        requires { Few rows cols }
-        ensures { result ≡ by_cols rows cols }
+    pub fn by_columns(size: Size) -> Half
+        ensures { result ≡ by_cols size.rows size.cols }
     {
         Half {
-            from: rows * line_words(cols),
-            lines: cols,
-            long: rows,
+            from: size.rows * line_words(size.cols),
+            lines: size.cols,
+            long: size.rows,
         }
     }
 

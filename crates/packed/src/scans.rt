@@ -22,10 +22,7 @@ pub struct Lines {
 pub fn is_upright(towards: Heading) -> bool
     ensures { result ≡ upright towards }
 {
-    match towards {
-        Heading::North | Heading::South => true,
-        _ => false,
-    }
+    matches!(towards, Heading::North | Heading::South)
 }
 
 // The way of a straight heading along its line.
@@ -44,13 +41,7 @@ fn next_word(word: usize, way: Way) -> Option<usize>
     ensures { result ≡ next_word way word }
 {
     match way {
-        Way::Forward => {
-            if word + 1 < WORDS {
-                Some(word + 1)
-            } else {
-                None
-            }
-        }
+        Way::Forward => (word + 1 < WORDS).then_some(word + 1),
         Way::Backward => word.checked_sub(1),
     }
 }
@@ -60,10 +51,7 @@ fn openings(line: &[u64; WORDS], word: usize, way: Way) -> u64
     requires { word < 2 }
     ensures { (i : ℕ) → i < 64 → bit result i ≡ opening line.now way (suc (64 * word + i)) }
 {
-    let last = match next_word(word, way.turned()) {
-        Some(from) => line[from],
-        None => u64::MAX,
-    };
+    let last = next_word(word, way.turned()).map_or(u64::MAX, |from| line[from]);
     moved_on(line[word], last, way) & !line[word]
 }
 
@@ -95,18 +83,17 @@ pub fn scan(lines: &Lines, at: usize, way: Way) -> (u16, bool)
     requires { at < 128 }
     ensures { Scanned lines.now at way result }
 {
-    match next_ending(lines, at, way) {
-        Some(end) => {
-            let steps = at.abs_diff(end) as u16;
-            if is_set(lines.here[end / WORD], end % WORD) {
-                (steps - 1, false)
-            } else {
-                (steps, true)
-            }
-        }
-        None => match way {
-            Way::Forward => (127 - at as u16, false),
-            Way::Backward => (at as u16, false),
-        },
+    let Some(end) = next_ending(lines, at, way) else {
+        let steps = match way {
+            Way::Forward => 127 - at as u16,
+            Way::Backward => at as u16,
+        };
+        return (steps, false);
+    };
+    let steps = at.abs_diff(end) as u16;
+    if is_set(lines.here[end / WORD], end % WORD) {
+        (steps - 1, false)
+    } else {
+        (steps, true)
     }
 }

@@ -1,6 +1,6 @@
 -- What a new table holds, and what is read from a defined one.
-use Rattle.std.proofs.Common.{◌≡◌, ℕ, ◌+◌, ◌*◌, ◌%◌, ◌<◌, Bool, true, false, cond, ◌&&◌, eqb, ltb, leb, List, length, get_or, drop, is_err, Some, None, Ok, Err, Result, sym, ap, ◌∙◌, subst, inl, inr, true≢false, arith, MatchResult}
-use Rattle.std.proofs.lemmas.Bool.{cases_Bool, and_parts, and_left, and_right, leb-true, cond-true, cond-false, eq-eqb, ne_eqb}
+use Rattle.std.proofs.Common.{◌≡◌, ℕ, ◌+◌, ◌*◌, ◌%◌, ◌<◌, Bool, true, false, cond, ◌&&◌, eqb, ltb, List, length, get_or, drop, Some, None, Ok, Err, Result, sym, ap, ◌∙◌, subst, inl, inr, arith, MatchResult}
+use Rattle.std.proofs.lemmas.Bool.{cases_Bool, and_left, and_right, cond-true, cond-false, eq-eqb, ne_eqb, le-ltb}
 use Rattle.floor.specs.declared.Cell.{Cell}
 use Rattle.floor.specs.declared.Heading.{Heading}
 use Rattle.floor.specs.Plane.{point, number, heading}
@@ -8,30 +8,26 @@ use Rattle.floor.specs.Plans.{Plan, inside, is_open, closed}
 use Rattle.floor.specs.Jumps.{jump_from, jump_of}
 use Rattle.floor.proofs.Jumps.{jump_blocked, jump_short}
 use Rattle.source.specs.Labels.{label_of, said_by}
+use Rattle.source.specs.declared.extents.Size.{Size}
+use Rattle.source.proofs.Laid.{Gets}
 use Rattle.source.specs.declared.sizes.SizeRefusal.{SizeRefusal}
-use Rattle.source.specs.Sizes.{size_answer, within_limits}
+use Rattle.source.specs.Sizes.{size_answer}
 use Rattle.source.specs.Drawing.{opened}
 use Rattle.source.proofs.LabelLaws.{label_says}
-use Rattle.table.specs.Layout.{Few, plan_of, needed, begins, Defined, Labelled, Flagged, New, Unmade, Made, Drawn}
+use Rattle.source.specs.Few.{Few}
+use Rattle.table.specs.Layout.{plan_of, needed, begins, Defined, Labelled, Flagged, New, Unmade, Made, Drawn}
 use Rattle.table.specs.Equations.{label_of_point}
 use Rattle.table.proofs.Places.{inside_from, number_below, within_needed}
 use Rattle.table.proofs.Marked.{numbered, jump_numbered, all_labels}
 
--- ---- the size check passed
-
-pub few_from : (rows cols have need : ℕ) → is_err (size_answer rows cols have need) ≡ false → Few rows cols
-few_from rows cols have need e = elim (cases_Bool (within_limits rows cols)) [
-  | inl w ↦
-      let both = and_parts _ _ w in
-      let r = and_parts (leb 1 rows) (leb rows 128) both.0 in
-      let c = and_parts (leb 1 cols) (leb cols 128) both.1 in
-      let r1 = leb-true 1 rows r.0 in
-      let c1 = leb-true 1 cols c.0 in
-      (leb-true rows 128 r.1, leb-true cols 128 c.1, (λ z. absurd (omega arith)), (λ z. absurd (omega arith)))
-  | inr w ↦ absurd (true≢false (sym (ap is_err (cond-false _ _ _ w)) ∙ e))
-]
-
 -- ---- a new table
+
+-- a plan of no rows and no columns
+nothing : (a : List ℕ) → plan_of 0 0 a ≡ closed 0 0
+nothing a = λ i. record { rows = 0; cols = 0; free = λ r c. none r c i }
+  where
+    none : (r c : ℕ) → (plan_of 0 0 a).free r c ≡ false
+    none r c = and_left _ _ (and_left (ltb r 0) (ltb c 0) (le-ltb r 0 (omega arith)))
 
 module _ (rows cols : ℕ) (a : List ℕ) (filled : (k : ℕ) → k < needed rows cols → get_or a k 0 ≡ cond (eqb (k % 9) 8) 0 32768) where
   ninth : (m : ℕ) → (9 * m + 8) % 9 ≡ 8
@@ -68,6 +64,18 @@ module _ (rows cols : ℕ) (a : List ℕ) (filled : (k : ℕ) → k < needed row
 
   pub new_defined : Defined (closed rows cols) a
   new_defined = subst (λ p. Defined p a) new_plan (record { labels = new_labelled; openings = new_flagged })
+
+-- what making leaves, by the size that it gets
+pub made_by : (rows cols : ℕ) (before after : List ℕ) (s : Size) → Gets rows cols s (size_answer rows cols (length before) (needed rows cols)) →
+    ((k : ℕ) → k < needed s.rows s.cols → get_or after k 0 ≡ cond (eqb (k % 9) 8) 0 32768) → drop (needed s.rows s.cols) after ≡ drop (needed s.rows s.cols) before →
+    Made rows cols before (plan_of s.rows s.cols after) after
+made_by rows cols before after s gets filled rest = at (size_answer rows cols (length before) (needed rows cols)) gets
+  where
+    at : (a : Result (Unit {0}) SizeRefusal) → Gets rows cols s a → MatchResult a (λ _. New rows cols before (plan_of s.rows s.cols after) after) (λ _. Unmade before (plan_of s.rows s.cols after) after)
+    at (Ok _) g = rw (← g.0, ← g.1) (record { plan = new_plan s.rows s.cols after filled; defined = new_defined s.rows s.cols after filled; filled = filled; rest = rest })
+    at (Err _) g =
+        let none : needed s.rows s.cols ≡ 0 = ap (λ n. needed n s.cols) g.0 ∙ omega arith in
+        record { plan = (λ i. plan_of (g.0 i) (g.1 i) after) ∙ nothing after; same = subst (λ n. drop n after ≡ drop n before) none rest }
 
 -- ---- reading
 

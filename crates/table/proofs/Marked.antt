@@ -10,9 +10,10 @@ use Rattle.floor.specs.Plans.{Plan, opens, is_open, marked}
 use Rattle.floor.specs.Jumps.{jump_from, jump_of}
 use Rattle.floor.proofs.Jumps.{jump_blocked}
 use Rattle.source.specs.Labels.{label_of}
-use Rattle.table.specs.Layout.{Few, plan_of, needed, begins, Defined, Remarked}
-use Rattle.table.specs.Equations.{label_of_point, Holds, Among, Seed, Mended, Mends, seeds, crossing, seeds_of, all_seeds}
-use Rattle.table.specs.Laws.{sized_plan}
+use Rattle.source.specs.Few.{Few}
+use Rattle.table.specs.Layout.{plan_of, needed, begins, Defined, Remarked}
+use Rattle.table.specs.Equations.{label_of_point, Holds, Among, Seed, Mended, Mends, seeds, straight_first, seeds_of, all_seeds}
+use Rattle.source.specs.Within.{sized_plan}
 use Rattle.table.proofs.Worked.{holds_defined, defined_holds}
 use Rattle.table.proofs.Spoiled.{heading_number, near}
 use Rattle.table.proofs.Places.{Inside, inside_from, inside_to, number_below, within_needed, apart, on_or_off, label_inside, label_kept, same_plan}
@@ -45,34 +46,30 @@ among_right x h [] ts a = a
 among_right x h (s ∷ ss) ts a = inr (among_right x h ss ts a)
 
 module _ (m x : Point) where
-  abbrev OfFour : Heading → List Heading → Type 0
-  OfFour h hs = Among x h (seeds m h) → Among x h (seeds_of m hs)
+  abbrev Of : Heading → List Heading → Type 0
+  Of h hs = Among x h (seeds m h) → Among x h (seeds_of m hs)
 
-  of_first : (h : Heading) (hs : List Heading) → OfFour h (h ∷ hs)
+  of_first : (h : Heading) (hs : List Heading) → Of h (h ∷ hs)
   unfolding seeds_of
   of_first h hs a = among_left x h (seeds m h) (seeds_of m hs) a
 
-  of_later : (h g : Heading) (hs : List Heading) → OfFour h hs → OfFour h (g ∷ hs)
+  of_later : (h g : Heading) (hs : List Heading) → Of h hs → Of h (g ∷ hs)
   unfolding seeds_of
   of_later h g hs f a = among_right x h (seeds m g) (seeds_of m hs) (f a)
 
-  of_straight : (h : Heading) → OfFour h (crossing North) → Among x h (seeds m h) → Among x h (all_seeds m)
-  unfolding all_seeds
-  of_straight h f a = among_left x h (seeds_of m (crossing North)) (seeds_of m (crossing NorthEast)) (f a)
+  -- past the first four
+  of_last : (h : Heading) (hs : List Heading) → Of h hs → Of h (North ∷ East ∷ South ∷ West ∷ hs)
+  of_last h hs f = of_later h North _ (of_later h East _ (of_later h South _ (of_later h West hs f)))
 
-  of_diagonal : (h : Heading) → OfFour h (crossing NorthEast) → Among x h (seeds m h) → Among x h (all_seeds m)
-  unfolding all_seeds
-  of_diagonal h f a = among_right x h (seeds_of m (crossing North)) (seeds_of m (crossing NorthEast)) (f a)
-
-  among_all : (h : Heading) → Among x h (seeds m h) → Among x h (all_seeds m)
-  among_all North = of_straight North (of_first North _)
-  among_all East = of_straight East (of_later East North _ (of_first East _))
-  among_all South = of_straight South (of_later South North _ (of_later South East _ (of_first South _)))
-  among_all West = of_straight West (of_later West North _ (of_later West East _ (of_later West South _ (of_first West _))))
-  among_all NorthEast = of_diagonal NorthEast (of_first NorthEast _)
-  among_all SouthEast = of_diagonal SouthEast (of_later SouthEast NorthEast _ (of_first SouthEast _))
-  among_all SouthWest = of_diagonal SouthWest (of_later SouthWest NorthEast _ (of_later SouthWest SouthEast _ (of_first SouthWest _)))
-  among_all NorthWest = of_diagonal NorthWest (of_later NorthWest NorthEast _ (of_later NorthWest SouthEast _ (of_later NorthWest SouthWest _ (of_first NorthWest _))))
+  among_all : (h : Heading) → Of h straight_first
+  among_all North = of_first North _
+  among_all East = of_later East North _ (of_first East _)
+  among_all South = of_later South North _ (of_later South East _ (of_first South _))
+  among_all West = of_later West North _ (of_later West East _ (of_later West South _ (of_first West _)))
+  among_all NorthEast = of_last NorthEast _ (of_first NorthEast _)
+  among_all SouthEast = of_last SouthEast _ (of_later SouthEast NorthEast _ (of_first SouthEast _))
+  among_all SouthWest = of_last SouthWest _ (of_later SouthWest NorthEast _ (of_later SouthWest SouthEast _ (of_first SouthWest _)))
+  among_all NorthWest = of_last NorthWest _ (of_later NorthWest NorthEast _ (of_later NorthWest SouthEast _ (of_later NorthWest SouthWest _ (of_first NorthWest _))))
 
 cell_dec : (c d : Cell) → (c ≡ d) ⊎ (c ≡ d → ⊥)
 cell_dec c d = elim (cases_eq c.row d.row) [
@@ -114,7 +111,7 @@ module _ (rows cols : ℕ) (few : Few rows cols) where
   defined_from a plain m = record {
     labels = λ c i h.
         sym (label_inside rows cols a c h (inside_from rows cols c i)) ∙
-        holds_defined (plan_of rows cols a) (sized_plan rows cols a few) (label_of_point rows cols a) every (point c) h;
+        holds_defined (plan_of rows cols a) (sized_plan _ few) (label_of_point rows cols a) every (point c) h;
     openings = λ c i. zero_or_one _ (plain c (inside_from rows cols c i)) ∙ sym (ap (λ b. cond b 1 0) (is_open_by a c i));
   }
     where
@@ -179,7 +176,7 @@ module _ (rows cols : ℕ) (few : Few rows cols) where
     broken : Defined (plan_of rows cols a) a → Mended rows cols after (all_seeds (point c))
     unfolding Mended
     broken d x h =
-        let holds = defined_holds (plan_of rows cols a) (sized_plan rows cols a few) (label_of_point rows cols a) (all_labels a d) x h in
+        let holds = defined_holds (plan_of rows cols a) (sized_plan _ few) (label_of_point rows cols a) (all_labels a d) x h in
         elim (near (opens (plan_of rows cols a)) (opens (plan_of rows cols after)) (label_of_point rows cols a) (point c) open_elsewhere x h holds) [
           | inl k ↦ inl (subst (λ l. Holds (opens (plan_of rows cols after)) l x h) (sym labels_same) k)
           | inr s ↦ inr (among_all (point c) x h s)

@@ -1,5 +1,5 @@
 -- Where the numbers of a cell lie: within the needed part, and apart from those of every other cell. So a write changes one label, or the openness of one cell, and nothing else.
-use Rattle.std.proofs.Common.{◌≡◌, ℕ, ◌+◌, ◌*◌, ◌/◌, ◌%◌, ◌<◌, ◌≤◌, true, false, cond, ◌&&◌, eqb, ltb, ◌≢◌, ◌⊎◌, List, length, get_or, set, ℤ, pos, negsuc, sym, refl, ap, ◌∙◌, subst, inl, inr, arith}
+use Rattle.std.proofs.Common.{◌≡◌, ℕ, ◌+◌, ◌*◌, ◌/◌, ◌%◌, ◌<◌, ◌≤◌, true, false, cond, ◌&&◌, eqb, ltb, ◌≢◌, ◌⊎◌, List, length, get_or, Option, set, ℤ, pos, negsuc, sym, refl, ap, ◌∙◌, subst, inl, inr, arith}
 use Rattle.std.proofs.lemmas.Bool.{cases_Bool, and_parts, and_from, and_left, ltb-true, lt-ltb}
 use Rattle.std.proofs.lemmas.List.{get_or-set_same, get_or-set_other, drop-set-lt}
 use Rattle.std.proofs.lemmas.Nat.{mul-add-lt, div-mul-add, mod-mul-add}
@@ -9,7 +9,8 @@ use Rattle.floor.specs.Plane.{Point, point, number, step}
 use Rattle.floor.specs.Plans.{opens}
 use Rattle.floor.proofs.Plane.{each}
 use Rattle.floor.proofs.Jumps.{closed_stays}
-use Rattle.table.specs.Layout.{plan_of, needed, begins}
+use Rattle.source.specs.declared.extents.Size.{Size}
+use Rattle.table.specs.Layout.{Placed, plan_of, needed, begins}
 use Rattle.table.specs.Equations.{dead, one_on, label_of_point, ends, due, Holds, Relabelled}
 
 -- ---- places
@@ -27,6 +28,10 @@ inside_from rows cols c e = let both = and_parts _ _ e in record { in_rows = ltb
 
 pub inside_to : (rows cols : ℕ) (c : Cell) → Inside rows cols c → (ltb c.row rows && ltb c.col cols) ≡ true
 inside_to rows cols c i = and_from _ _ (lt-ltb _ _ i.in_rows) (lt-ltb _ _ i.in_cols)
+
+-- the same for a table of the same size
+pub placed_in : (s t : Size) → s ≡ t → (c : Cell) (k : Option ℕ) → Placed s.rows s.cols c k → Placed t.rows t.cols c k
+placed_in s t e c k p = subst (λ (z : Size). Placed z.rows z.cols c k) e p
 
 -- the numbers of a cell inside are among the needed ones
 pub within_needed : (rows cols : ℕ) (c : Cell) (n : ℕ) → Inside rows cols c → n < 9 → begins cols c + n < needed rows cols

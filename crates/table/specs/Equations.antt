@@ -2,7 +2,7 @@
 use Rattle.std.specs.Prelude.{◌≡◌, ℕ, ◌+◌, ◌*◌, ◌%◌, ◌^◌, Bool, true, cond, ◌&&◌, ◌||◌, ◌⊎◌, List, [], ◌∷◌, ◌++◌, drop, ℤ, pos, negsuc, nat_lt, slice_index, slice_set}
 use Rattle.floor.specs.declared.Cell.{Cell}
 use Rattle.floor.specs.declared.Heading.{Heading}
-use Rattle.floor.specs.declared.Heading.TheVariants.{North, NorthEast}
+use Rattle.floor.specs.declared.Heading.TheVariants.{North, NorthEast, East, SouthEast, South, SouthWest, West, NorthWest}
 use Rattle.floor.specs.declared.Side.TheVariants.{Left, Right}
 use Rattle.floor.specs.Plane.{Point, point, number, turn, opposite, diagonal, step}
 use Rattle.floor.specs.Plans.{Plan, Sized, opens, legal}
@@ -115,15 +115,15 @@ seeds x h =
     seed (step (turn Right (opposite h)) x) h ∷
     cond (diagonal h) [] (seed (step (turn Left (turn Left (opposite h))) x) h ∷ seed (step (turn Right (turn Right (opposite h))) x) h ∷ [])
 
--- a heading and those at right angles to it
-abbrev pub crossing : Heading → List Heading
-crossing h = h ∷ turn Right (turn Right h) ∷ opposite h ∷ turn Right (turn Right (opposite h)) ∷ []
-
 -- the seeds of some headings
 unfoldable pub seeds_of : Point → List Heading → List Seed
 seeds_of x [] = []
 seeds_of x (h ∷ hs) = seeds x h ++ seeds_of x hs
 
--- the seeds of all headings, straight ones first, since diagonal labels look at straight ones
-unfoldable pub all_seeds : Point → List Seed
-all_seeds x = seeds_of x (crossing North) ++ seeds_of x (crossing NorthEast)
+-- all headings, straight ones first, since diagonal labels look at straight ones
+abbrev pub straight_first : List Heading
+straight_first = North ∷ East ∷ South ∷ West ∷ NorthEast ∷ SouthEast ∷ SouthWest ∷ NorthWest ∷ []
+
+-- the seeds of all headings
+abbrev pub all_seeds : Point → List Seed
+all_seeds x = seeds_of x straight_first

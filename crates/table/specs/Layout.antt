@@ -1,5 +1,5 @@
 -- How numbers stand for a plan: nine for each cell, cells in row order. The first eight are the cell's labels, in the order of the headings; the ninth is 1 for an open cell and 0 for a closed one.
-use Rattle.std.specs.Prelude.{◌≡◌, ℕ, ◌+◌, ◌*◌, ◌%◌, ◌<◌, ◌≤◌, Bool, true, false, cond, ◌&&◌, List, length, drop, Some, None, Option, MatchResult, ◌==◌, nat_lt, slice_index}
+use Rattle.std.specs.Prelude.{◌≡◌, ℕ, ◌+◌, ◌*◌, ◌%◌, ◌<◌, Bool, true, false, cond, ◌&&◌, List, length, drop, Some, None, Option, MatchResult, ◌==◌, nat_lt, slice_index}
 use Rattle.floor.specs.declared.Cell.{Cell}
 use Rattle.floor.specs.declared.Heading.{Heading}
 use Rattle.floor.specs.Plane.{point, number}
@@ -8,10 +8,6 @@ use Rattle.floor.specs.Jumps.{jump_from}
 use Rattle.source.specs.Labels.{label_of}
 use Rattle.source.specs.Sizes.{size_answer}
 use Rattle.source.specs.Drawing.{opened}
-
--- 1 to 128 rows and columns, or none of either
-abbrev pub Few : ℕ → ℕ → Type 0
-Few rows cols = (rows ≤ 128) × (cols ≤ 128) × (rows ≡ 0 → cols ≡ 0) × (cols ≡ 0 → rows ≡ 0)
 
 -- how many numbers a plan needs
 abbrev pub needed : ℕ → ℕ → ℕ

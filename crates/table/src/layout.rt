@@ -1,33 +1,36 @@
 // A plan on lent numbers, nine to a cell: its eight labels, in the order of the headings, then 1 if it is open and 0 if not.
-ghost use Rattle.std.specs.Prelude.{◌≡◌, ℕ, ◌%◌, ◌<◌, ◌≤◌, length, drop, if◌then◌else◌, nat_eq, slice_index, refl};
+ghost use Rattle.std.specs.Prelude.{◌≡◌, ℕ, ◌%◌, ◌<◌, ◌≤◌, length, drop, if◌then◌else◌, nat_eq, slice_index, refl, IfOk};
+ghost use Rattle.std.specs.Result.{result_map_both};
 ghost use Rattle.std.proofs.Common.{◌∙◌};
 ghost use Rattle.floor.specs.Jumps.{jump_of};
 ghost use Rattle.source.specs.Labels.{label_of};
 ghost use Rattle.source.specs.Sizes.{size_answer};
-ghost use Rattle.table.specs.Layout.{Few, needed, plan_of, Labelled, Flagged, Made};
-ghost use Rattle.table.specs.Laws.{sized_plan, kept_on};
+ghost use Rattle.table.specs.Layout.{needed, plan_of, Defined, Made};
+ghost use Rattle.source.specs.Within.{sized_plan};
+ghost use Rattle.table.specs.Laws.{kept_on};
 
-use crate::mending::Extent;
-use crate::reading::{DEAD, View, open_number, place_of};
+use crate::mending::Table;
+use crate::reading::{DEAD, View};
 use floor::{Cell, Heading};
-use source::{Ground, JumpSource, SizeRefusal, read_label, size_check};
+use source::{Ground, JumpSource, OnMemory, Size, SizeRefusal, read_label, size_check};
+
+// The ninth number of a closed cell.
+const CLOSED: u16 = 0;
 
 // At every moment each number of the plan is the defined one; numbers past the plan are never written.
 #[derive(Drop)]
 pub struct TableSource<'a> {
-    rows: usize,
-    cols: usize,
+    size: Size,
     numbers: &'a mut [u16],
-    ghost few: { Few rows cols },
-    ghost fits: { needed rows cols ≤ length numbers.now },
-    ghost labelled: { Labelled (plan_of rows cols numbers.now) numbers.now },
-    ghost flagged: { Flagged (plan_of rows cols numbers.now) numbers.now },
+    ghost fits: { needed size.rows size.cols ≤ length numbers.now },
+    ghost defined: { Defined (plan_of size.rows size.cols numbers.now) numbers.now },
 }
 
 impl<'a> TableSource<'a> {
-    // Whether a plan of this size can be laid on so many numbers.
-    pub fn check(rows: usize, cols: usize, numbers: usize) -> Result<(), SizeRefusal>
-        ensures { result ≡ size_answer rows cols numbers (needed rows cols) }
+    // The size of a plan of so many rows and columns, if it can be laid on so many numbers.
+    pub fn check(rows: usize, cols: usize, numbers: usize) -> Result<Size, SizeRefusal>
+        ensures answer { result_map_both (λ _. tt) (λ e. e) result ≡ size_answer rows cols numbers (needed rows cols) }
+        ensures size { IfOk result (λ s. (s.rows ≡ rows) × (s.cols ≡ cols)) }
     {
         size_check(
             rows,
@@ -39,31 +42,34 @@ impl<'a> TableSource<'a> {
 
     // A new plan of this size, all closed; where the check refuses, the plan of no rows and no columns.
     pub fn make(memory: &'a mut [u16], rows: usize, cols: usize) -> TableSource<'a>
-        ensures plan { Made rows cols memory.old (plan_of result.rows result.cols result.numbers.now) result.numbers.now }
+        ensures plan { Made rows cols memory.old (plan_of result.size.rows result.size.cols result.numbers.now) result.numbers.now }
         ensures same { result.numbers.ghost_name ≡ memory.entry.ghost_name }
     {
-        if TableSource::check(rows, cols, memory.len()).is_err() {
-            return TableSource {
-                rows: 0,
-                cols: 0,
-                numbers: memory,
-            };
-        }
-        close_all(memory, 9 * (rows * cols));
+        let size = TableSource::check(rows, cols, memory.len()).unwrap_or(Size::NONE);
+        close_all(&mut memory[..9 * size.cells()]);
         TableSource {
-            rows,
-            cols,
+            size,
             numbers: memory,
+        }
+    }
+
+    fn view(&self) -> View<'_>
+        ensures { (result.size ≡ self.now.size) × (result.numbers.now ≡ self.now.numbers.now) }
+    {
+        View {
+            size: self.size,
+            numbers: &*self.numbers,
         }
     }
 
     // The eight labels of a cell, as they stand in the table; off the plan they are dead.
     pub fn labels(&self, cell: Cell) -> [u16; 8]
         ensures len { length result ≡ 8 }
-        ensures made { (h : ℕ) → h < 8 → slice_index result h ≡ label_of (jump_of (plan_of self.now.rows self.now.cols self.now.numbers.now) cell h) }
+        ensures made { (h : ℕ) → h < 8 → slice_index result h ≡ label_of (jump_of (plan_of self.now.size.rows self.now.size.cols self.now.numbers.now) cell h) }
     {
         let mut all = [DEAD; 8];
-        if let Some(place) = place_of(self.rows, self.cols, cell) {
+        if let Some(place) = self.view().place_of(cell) {
+            // Kept: it is a rule of the project that the array of eight is filled heading by heading.
             for heading in 0..8 {
                 all[heading] = self.numbers[place + heading];
             }
@@ -72,74 +78,71 @@ impl<'a> TableSource<'a> {
     }
 }
 
-// Writes the first numbers as those of closed cells.
-fn close_all(memory: &mut [u16], count: usize)
-    requires { count ≤ length memory.old }
-    ensures filled { (k : ℕ) → k < count → slice_index memory.new k ≡ (if nat_eq (k % 9) 8 then 0 else 32768) }
-    ensures rest { drop count memory.new ≡ drop count memory.old }
+// Writes numbers as those of closed cells.
+fn close_all(numbers: &mut [u16])
+    ensures { (k : ℕ) → k < length numbers.old → slice_index numbers.new k ≡ (if nat_eq (k % 9) 8 then 0 else 32768) }
 {
-    for i in 0..count {
-        memory[i] = if i % 9 == 8 { open_number(false) } else { DEAD };
+    for (i, number) in numbers.iter_mut().enumerate() {
+        *number = if i % 9 == 8 { CLOSED } else { DEAD };
     }
 }
 
 impl<'a> JumpSource for TableSource<'a> {
-    ghost meaning = { λ s. plan_of s.rows s.cols s.numbers.now };
+    ghost meaning = { λ s. plan_of s.size.rows s.size.cols s.numbers.now };
 
-    ghost sized = { λ s. sized_plan s.rows s.cols s.numbers.now s.few };
+    ghost sized = { λ s. sized_plan _ s.size.few };
 
-    ghost lent = { λ s t. (s.numbers.ghost_name ≡ t.numbers.ghost_name) × (s.rows ≡ t.rows) × (s.cols ≡ t.cols) × (drop (needed s.rows s.cols) t.numbers.now ≡ drop (needed s.rows s.cols) s.numbers.now) };
+    ghost lent = { λ s t. (s.numbers.ghost_name ≡ t.numbers.ghost_name) × (s.size ≡ t.size) × (drop (needed s.size.rows s.size.cols) t.numbers.now ≡ drop (needed s.size.rows s.size.cols) s.numbers.now) };
 
-    ghost stays = { λ s. (refl, refl, refl, refl) };
+    ghost stays = { λ s. (refl, refl, refl) };
 
-    ghost goes = { λ s t u p q. (p.0 ∙ q.0, p.1 ∙ q.1, p.2 ∙ q.2, kept_on s.rows s.cols t.rows t.cols s.numbers.now t.numbers.now u.numbers.now p.1 p.2 p.3 q.3) };
+    ghost goes = { λ s t u p q. (p.0 ∙ q.0, p.1 ∙ q.1, kept_on s.size t.size s.numbers.now t.numbers.now u.numbers.now p.1 p.2 q.2) };
 
-    fn size(&self) -> (usize, usize) {
-        (self.rows, self.cols)
+    fn size(&self) -> Size {
+        self.size
     }
 
     fn is_open(&self, cell: Cell) -> bool {
-        View {
-            rows: self.rows,
-            cols: self.cols,
-            numbers: &*self.numbers,
-        }
-        .is_free(cell)
+        self.view().is_free(cell)
     }
 
     fn mark(&mut self, cell: Cell, open: bool) -> bool {
-        let Some(place) = place_of(self.rows, self.cols, cell) else {
+        let Some(place) = self.view().place_of(cell) else {
             return false;
         };
-        // The numbers are taken out while they are mended, and put back when each of them is right again.
-        let nothing = TableSource {
-            rows: 0,
-            cols: 0,
-            numbers: &mut [],
+        // Kept: the numbers are taken out while they are mended, and put back when each is right again; over a table that stood
+        // in the source and was mended there, it could not be proved what the memory says once the source is gone.
+        let mut table = Table {
+            size: self.size,
+            numbers: std::mem::take(&mut self.numbers),
         };
-        let TableSource {
-            rows,
-            cols,
-            numbers,
-        } = std::mem::replace(self, nothing);
-        Extent { rows, cols }.mark(numbers, cell, place, open);
-        *self = TableSource {
-            rows,
-            cols,
-            numbers,
-        };
+        table.mark(cell, place, open);
+        let Table { numbers, .. } = table;
+        self.numbers = numbers;
         true
     }
 
     fn jump(&self, cell: Cell, heading: u8) -> (u16, bool) {
-        let Some(towards) = Heading::numbered(heading) else {
+        let Ok(towards) = Heading::try_from(heading) else {
             return (0, false);
         };
-        let view = View {
-            rows: self.rows,
-            cols: self.cols,
-            numbers: &*self.numbers,
-        };
-        read_label(view.label(cell, towards))
+        read_label(self.view().label(cell, towards))
+    }
+}
+
+impl<'a> OnMemory<'a> for TableSource<'a> {
+    type Word = u16;
+
+    ghost needed = { needed };
+
+    fn check(rows: usize, cols: usize, numbers: usize) -> Result<Size, SizeRefusal>
+        ensures answer { result_map_both (λ _. tt) (λ e. e) result ≡ size_answer rows cols numbers (needed rows cols) }
+        ensures size { IfOk result (λ s. (s.rows ≡ rows) × (s.cols ≡ cols)) }
+    {
+        TableSource::check(rows, cols, numbers)
+    }
+
+    fn make(memory: &'a mut [u16], rows: usize, cols: usize) -> TableSource<'a> {
+        TableSource::make(memory, rows, cols)
     }
 }

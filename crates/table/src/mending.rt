@@ -1,11 +1,12 @@
 // Mending a table: labels are put right from where a mark may have broken their equations, back against each heading.
-ghost use Rattle.std.specs.Prelude.{◌≡◌, ◌≤◌, true, false, [], ◌∷◌, length, Some};
-ghost use Rattle.floor.specs.Plane.{point, step, diagonal, opposite};
-ghost use Rattle.table.specs.Layout.{Few, Placed, needed, plan_of, Defined, Remarked};
-ghost use Rattle.table.specs.Equations.{PutRight, Mends, seed, seeds, crossing, seeds_of, all_seeds};
+ghost use Rattle.std.specs.Prelude.{◌≡◌, ◌≤◌, [], Some, length};
+ghost use Rattle.floor.specs.Plane.{point};
+ghost use Rattle.table.specs.Layout.{Placed, Defined, Remarked, needed, plan_of};
+ghost use Rattle.table.specs.Equations.{PutRight, seeds, seeds_of, all_seeds};
 
-use crate::reading::{DEAD, View, open_number, place_of};
+use crate::reading::{DEAD, View};
 use floor::{Cell, Heading, Side};
+use source::Size;
 
 // What putting a label right did to it.
 #[derive(Clone, Copy)]
@@ -17,34 +18,53 @@ pub enum Change {
     Life,
 }
 
-// The size of a table.
-#[derive(Clone, Copy)]
-pub struct Extent {
-    pub rows: usize,
-    pub cols: usize,
-    ghost few: { Few rows cols },
+// Straight ones first, since diagonal labels look at straight ones.
+const HEADINGS: [Heading; 8] = [
+    Heading::North,
+    Heading::East,
+    Heading::South,
+    Heading::West,
+    Heading::NorthEast,
+    Heading::SouthEast,
+    Heading::SouthWest,
+    Heading::NorthWest,
+];
+
+// A table whose labels may not be right.
+#[derive(Drop)]
+pub struct Table<'n> {
+    pub size: Size,
+    pub numbers: &'n mut [u16],
+    ghost fits: { needed size.rows size.cols ≤ length numbers.now },
 }
 
-impl Extent {
-    // Puts right the label of a cell with a heading.
-    fn put_right(self, numbers: &mut [u16], cell: Cell, towards: Heading) -> Change
-        requires { needed self.rows self.cols ≤ length numbers.old }
-        ensures { PutRight self.rows self.cols numbers.old cell towards numbers.new result }
+impl<'n> Table<'n> {
+    ghost use Rattle.table.specs.Tables.{Stays, MendsOn, seed_at, seeds_around};
+
+    fn view(&self) -> View<'_>
+        ensures { (result.size ≡ self.now.size) × (result.numbers.now ≡ self.now.numbers.now) }
     {
-        let Some(place) = place_of(self.rows, self.cols, cell) else {
+        View {
+            size: self.size,
+            numbers: &*self.numbers,
+        }
+    }
+
+    // Puts right the label of a cell with a heading.
+    fn put_right(&mut self, cell: Cell, towards: Heading) -> Change
+        ensures stays { Stays self.old self.new }
+        ensures put { PutRight self.old.size.rows self.old.size.cols self.old.numbers.now cell towards self.new.numbers.now result }
+    {
+        let view = self.view();
+        let Some(place) = view.place_of(cell) else {
             return Change::Same;
-        };
-        let view = View {
-            rows: self.rows,
-            cols: self.cols,
-            numbers: &*numbers,
         };
         let old = view.label(cell, towards);
         let due = view.due(cell, towards);
         if due == old {
             return Change::Same;
         }
-        numbers[place + towards.number() as usize] = due;
+        self.numbers[place + usize::from(towards)] = due;
         if (due < DEAD) == (old < DEAD) {
             Change::Steps
         } else {
@@ -52,132 +72,73 @@ impl Extent {
         }
     }
 
-    // Walks back from a cell against a diagonal heading and puts labels right, for as long as they change.
-    fn mend_diagonal(self, numbers: &mut [u16], from: Cell, towards: Heading)
-        requires fits { needed self.rows self.cols ≤ length numbers.old }
-        requires slanted { diagonal towards ≡ true }
-        ensures { Mends self.rows self.cols numbers.old (seed (point from) towards ∷ []) numbers.new [] }
+    // Walks back from a cell, if there is one, and puts labels right for as long as they change. Where a straight one turned live or dead,
+    // the two diagonal headings that look at it are followed back at once, in the same way.
+    fn mend_from(&mut self, from: Option<Cell>, towards: Heading)
+        ensures { MendsOn self.old (seed_at from towards) self.new [] }
     {
-        let mut cell = from;
-        loop {
-            if let Change::Same = self.put_right(numbers, cell, towards) {
-                return;
-            }
-            match cell.stepped(towards.opposite()) {
-                Some(back) => cell = back,
-                None => return,
-            }
-        }
-    }
-
-    // The same from the cell from which a diagonal step leads to `cell`.
-    fn mend_looker(self, numbers: &mut [u16], cell: Cell, slant: Heading)
-        requires fits { needed self.rows self.cols ≤ length numbers.old }
-        requires slanted { diagonal slant ≡ true }
-        ensures { Mends self.rows self.cols numbers.old (seed (step (opposite slant) (point cell)) slant ∷ []) numbers.new [] }
-    {
-        if let Some(back) = cell.stepped(slant.opposite()) {
-            self.mend_diagonal(numbers, back, slant);
-        }
-    }
-
-    // Walks back from a cell against a straight heading. Where a label turned live or dead, the two diagonal headings that look at it are followed back at once.
-    fn mend_straight(self, numbers: &mut [u16], from: Cell, towards: Heading)
-        requires fits { needed self.rows self.cols ≤ length numbers.old }
-        requires straight { diagonal towards ≡ false }
-        ensures { Mends self.rows self.cols numbers.old (seed (point from) towards ∷ []) numbers.new [] }
-    {
-        let mut cell = from;
-        loop {
-            match self.put_right(numbers, cell, towards) {
+        let mut at = from;
+        while let Some(cell) = at {
+            match self.put_right(cell, towards) {
                 Change::Same => return,
                 Change::Steps => {}
                 Change::Life => {
-                    self.mend_looker(numbers, cell, towards.turn(Side::Left));
-                    self.mend_looker(numbers, cell, towards.turn(Side::Right));
+                    if !towards.is_diagonal() {
+                        let left = towards.turn(Side::Left);
+                        let right = towards.turn(Side::Right);
+                        self.mend_from(cell.stepped(left.opposite()), left);
+                        self.mend_from(cell.stepped(right.opposite()), right);
+                    }
                 }
             }
-            match cell.stepped(towards.opposite()) {
-                Some(back) => cell = back,
-                None => return,
-            }
+            at = cell.stepped(towards.opposite());
         }
     }
 
-    // Walks back from a cell against any heading.
-    fn mend_from(self, numbers: &mut [u16], cell: Cell, towards: Heading)
-        requires { needed self.rows self.cols ≤ length numbers.old }
-        ensures { Mends self.rows self.cols numbers.old (seed (point cell) towards ∷ []) numbers.new [] }
+    // The same from the cells next to `cell` on some sides.
+    fn mend_around(&mut self, cell: Cell, sides: &[Heading], towards: Heading)
+        ensures { MendsOn self.old (seeds_around (point cell) sides.now towards) self.new [] }
     {
-        if towards.is_diagonal() {
-            self.mend_diagonal(numbers, cell, towards);
-        } else {
-            self.mend_straight(numbers, cell, towards);
-        }
-    }
-
-    // The same from a cell next to `cell`.
-    fn mend_beside(self, numbers: &mut [u16], cell: Cell, aside: Heading, towards: Heading)
-        requires { needed self.rows self.cols ≤ length numbers.old }
-        ensures { Mends self.rows self.cols numbers.old (seed (step aside (point cell)) towards ∷ []) numbers.new [] }
-    {
-        if let Some(start) = cell.stepped(aside) {
-            self.mend_from(numbers, start, towards);
+        for side in sides {
+            self.mend_from(cell.stepped(*side), towards);
         }
     }
 
     // Mends the labels of one heading after a mark at `cell`: from there, and from the cells around it whose step, or a cell beside that step, can reach it.
-    fn mend_heading(self, numbers: &mut [u16], cell: Cell, towards: Heading)
-        requires { needed self.rows self.cols ≤ length numbers.old }
-        ensures { Mends self.rows self.cols numbers.old (seeds (point cell) towards) numbers.new [] }
+    fn mend_heading(&mut self, cell: Cell, towards: Heading)
+        ensures { MendsOn self.old (seeds (point cell) towards) self.new [] }
     {
         let back = towards.opposite();
         let left = back.turn(Side::Left);
         let right = back.turn(Side::Right);
-        self.mend_from(numbers, cell, towards);
-        self.mend_beside(numbers, cell, back, towards);
-        self.mend_beside(numbers, cell, left, towards);
-        self.mend_beside(numbers, cell, right, towards);
+        self.mend_from(Some(cell), towards);
+        self.mend_around(cell, &[back, left, right], towards);
         if !towards.is_diagonal() {
-            self.mend_beside(numbers, cell, left.turn(Side::Left), towards);
-            self.mend_beside(numbers, cell, right.turn(Side::Right), towards);
+            let further = [left.turn(Side::Left), right.turn(Side::Right)];
+            self.mend_around(cell, &further, towards);
         }
     }
 
-    // The same for a heading and those at right angles to it.
-    fn mend_crossing(self, numbers: &mut [u16], cell: Cell, first: Heading)
-        requires { needed self.rows self.cols ≤ length numbers.old }
-        ensures { Mends self.rows self.cols numbers.old (seeds_of (point cell) (crossing first)) numbers.new [] }
+    // Mends all labels after a mark at `cell`.
+    fn mend(&mut self, cell: Cell)
+        ensures { MendsOn self.old (all_seeds (point cell)) self.new [] }
     {
-        let third = first.opposite();
-        let second = first.turn(Side::Right).turn(Side::Right);
-        let fourth = third.turn(Side::Right).turn(Side::Right);
-        self.mend_heading(numbers, cell, first);
-        self.mend_heading(numbers, cell, second);
-        self.mend_heading(numbers, cell, third);
-        self.mend_heading(numbers, cell, fourth);
-    }
-
-    // Mends all labels after a mark at `cell`, straight ones first, since diagonal ones look at them.
-    pub fn mend(self, numbers: &mut [u16], cell: Cell)
-        requires { needed self.rows self.cols ≤ length numbers.old }
-        ensures { Mends self.rows self.cols numbers.old (all_seeds (point cell)) numbers.new [] }
-    {
-        self.mend_crossing(numbers, cell, Heading::North);
-        self.mend_crossing(numbers, cell, Heading::NorthEast);
+        for towards in HEADINGS {
+            self.mend_heading(cell, towards);
+        }
     }
 
     // Sets a cell inside, whose numbers begin at `place`, open or closed, and mends the labels. Where it is set so already nothing is touched.
-    pub fn mark(self, numbers: &mut [u16], cell: Cell, place: usize, open: bool)
-        requires fits { needed self.rows self.cols ≤ length numbers.old }
-        requires within { Placed self.rows self.cols cell (Some place) }
-        requires defined { Defined (plan_of self.rows self.cols numbers.old) numbers.old }
-        ensures { Remarked self.rows self.cols numbers.old cell «open» numbers.new }
+    pub fn mark(&mut self, cell: Cell, place: usize, open: bool)
+        requires within { Placed self.old.size.rows self.old.size.cols cell (Some place) }
+        requires defined { Defined (plan_of self.old.size.rows self.old.size.cols self.old.numbers.now) self.old.numbers.now }
+        ensures stays { Stays self.old self.new }
+        ensures remarked { Remarked self.old.size.rows self.old.size.cols self.old.numbers.now cell «open» self.new.numbers.now }
     {
-        let number = open_number(open);
-        if numbers[place + 8] != number {
-            numbers[place + 8] = number;
-            self.mend(numbers, cell);
+        let number = u16::from(open);
+        if self.numbers[place + 8] != number {
+            self.numbers[place + 8] = number;
+            self.mend(cell);
         }
     }
 }

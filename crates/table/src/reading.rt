@@ -1,77 +1,62 @@
 // Reading a table: whether a cell is open, its labels, and what a label should be by the labels one step on.
-ghost use Rattle.std.specs.Prelude.{◌≡◌, ◌≤◌, cond, length};
+ghost use Rattle.std.specs.Prelude.{◌≡◌, ◌+◌, ◌≤◌, IfSome, length};
 ghost use Rattle.floor.specs.Plane.{point, step};
-ghost use Rattle.table.specs.Layout.{Few, Placed, needed, plan_of};
-ghost use Rattle.table.specs.Equations.{live, label_of_point, ends_in, due_in};
-ghost use Rattle.table.specs.Laws.{sized_plan};
+ghost use Rattle.table.specs.Layout.{Placed, needed, plan_of};
+ghost use Rattle.table.specs.Equations.{live};
+ghost use Rattle.source.specs.Within.{sized_plan};
 
 use floor::{Cell, Heading, Side};
-use source::{Ground, label};
+use source::{Ground, Size, label};
 
 // The ninth number of an open cell.
 const OPEN: u16 = 1;
 
-// The ninth number of a closed cell.
-const CLOSED: u16 = 0;
-
 // The label of a dead jump of no steps; those of live jumps are less.
 pub const DEAD: u16 = 32768;
-
-// Where the nine numbers of a cell inside begin.
-pub fn place_of(rows: usize, cols: usize, cell: Cell) -> Option<usize>
-    requires { Few rows cols }
-    ensures { Placed rows cols cell result }
-{
-    if cell.row < rows && cell.col < cols {
-        Some(9 * (cell.row * cols + cell.col))
-    } else {
-        None
-    }
-}
-
-// The ninth number of a cell.
-pub fn open_number(open: bool) -> u16
-    ensures { result ≡ cond «open» 1 0 }
-{
-    if open { OPEN } else { CLOSED }
-}
 
 // A table to be read.
 #[derive(Clone, Copy)]
 pub struct View<'t> {
-    pub rows: usize,
-    pub cols: usize,
+    pub size: Size,
     pub numbers: &'t [u16],
-    ghost few: { Few rows cols },
-    ghost fits: { needed rows cols ≤ length numbers.now },
+    ghost fits: { needed size.rows size.cols ≤ length numbers.now },
 }
 
 impl<'t> Ground for View<'t> {
-    ghost plan = { λ s. plan_of s.rows s.cols s.numbers.now };
+    ghost plan = { λ s. plan_of s.size.rows s.size.cols s.numbers.now };
 
-    ghost small = { λ s. sized_plan s.rows s.cols s.numbers.now s.few };
+    ghost small = { λ s. sized_plan _ s.size.few };
 
     fn is_free(&self, cell: Cell) -> bool {
-        match place_of(self.rows, self.cols, cell) {
-            Some(place) => self.numbers[place + 8] == OPEN,
-            None => false,
-        }
+        self.place_of(cell)
+            .is_some_and(|place| self.numbers[place + 8] == OPEN)
     }
 }
 
 impl<'t> View<'t> {
+    ghost use Rattle.table.specs.Views.{label_in, ends_at, due_at};
+
+    // Where the nine numbers of a cell inside begin.
+    pub fn place_of(&self, cell: Cell) -> Option<usize>
+        ensures placed { Placed self.now.size.rows self.now.size.cols cell result }
+        ensures fits { IfSome result (λ place. place + 9 ≤ length self.now.numbers.now) }
+    {
+        let index = self.size.index_of(cell)?;
+        Some(9 * index)
+    }
+
     // The label of a cell; off the plan it is dead.
     pub fn label(&self, cell: Cell, towards: Heading) -> u16
-        ensures { result ≡ label_of_point self.now.rows self.now.cols self.now.numbers.now (point cell) towards }
+        ensures { result ≡ label_in self.now (point cell) towards }
     {
-        match place_of(self.rows, self.cols, cell) {
-            Some(place) => self.numbers[place + towards.number() as usize],
+        match self.place_of(cell) {
+            Some(place) => self.numbers[place + usize::from(towards)],
             None => DEAD,
         }
     }
 
     fn is_live(&self, cell: Cell, towards: Heading) -> bool
-        ensures { result ≡ live (label_of_point self.now.rows self.now.cols self.now.numbers.now (point cell) towards) }
+        ensures { result ≡ live (label_in self.now (point cell) towards) }
     {
         self.label(cell, towards) < DEAD
     }
@@ -79,7 +64,7 @@ impl<'t> View<'t> {
     // Whether a jump ends where the step from `cell` to `next` ends.
     fn ends(&self, cell: Cell, next: Cell, towards: Heading) -> bool
         requires { point next ≡ step towards (point cell) }
-        ensures { result ≡ ends_in self.now.rows self.now.cols self.now.numbers.now (point cell) towards }
+        ensures { result ≡ ends_at self.now (point cell) towards }
     {
         if towards.is_diagonal() {
             self.is_live(next, towards.turn(Side::Left))
@@ -91,15 +76,12 @@ impl<'t> View<'t> {
 
     // What the label of a cell should be. The sum never wraps where the labels are right, and needs no bound where they are not yet.
     pub fn due(&self, cell: Cell, towards: Heading) -> u16
-        ensures { result ≡ due_in self.now.rows self.now.cols self.now.numbers.now (point cell) towards }
+        ensures { result ≡ due_at self.now (point cell) towards }
     {
-        let Some(next) = self.legal_step(cell, towards) else {
-            return label(0, false);
-        };
-        if self.ends(cell, next, towards) {
-            label(1, true)
-        } else {
-            self.label(next, towards).wrapping_add(1)
+        match self.legal_step(cell, towards) {
+            None => DEAD,
+            Some(next) if self.ends(cell, next, towards) => label(1, true),
+            Some(next) => self.label(next, towards).wrapping_add(1),
         }
     }
 }

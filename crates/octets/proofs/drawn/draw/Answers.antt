@@ -9,5 +9,5 @@ returns c =
     let left = c.open_all.new.source in
     let kept = c.open_all.ensures.kept in
     subst (λ (memory : List ℕ). Drawn c.args.rows c.args.cols c.args.cells.now c.args.memory.now memory) {x = left.bytes.now} (sym (search rules))
-    (drawn_by c.args.rows c.args.cols c.args.cells.now c.args.memory.now made.bytes.now left.bytes.now made.rows made.cols left.rows left.cols
-    c.make-source.ensures.plan c.open_all.ensures.plan kept.1 kept.2 kept.3)
+    (drawn_by c.args.rows c.args.cols c.args.cells.now c.args.memory.now made.bytes.now left.bytes.now made.size left.size
+    c.make-source.ensures.plan c.open_all.ensures.plan kept.1 kept.2)

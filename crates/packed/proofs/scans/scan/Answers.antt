@@ -14,9 +14,9 @@ returns-else-is_set c =
 pub returns-in-Forward : goal.returns-in-Forward
 returns-in-Forward c =
     subst (λ way. Next c.args.lines.now c.args.at way None → Scanned c.args.lines.now c.args.at way (127 - c.args.at, false)) (sym c.in-Forward.is)
-    (runs_out_forward c.args.lines.now c.args.at c.requires) c.in-None.ensures
+    (runs_out_forward c.args.lines.now c.args.at c.requires) c.in_default.ensures
 
 pub returns-in-Backward : goal.returns-in-Backward
 returns-in-Backward c =
     subst (λ way. Next c.args.lines.now c.args.at way None → Scanned c.args.lines.now c.args.at way (c.args.at, false)) (sym c.in-Backward.is)
-    (runs_out_backward c.args.lines.now c.args.at c.requires) c.in-None.ensures
+    (runs_out_backward c.args.lines.now c.args.at c.requires) c.in_default.ensures

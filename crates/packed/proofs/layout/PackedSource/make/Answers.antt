@@ -1,15 +1,14 @@
-use Rattle.std.proofs.Common.{is_err, sym, refl, ap, ◌∙◌, arith}
-use Rattle.packed.proofs.Making.{cases_from_ok, made_new}
+use Rattle.std.proofs.Common.{refl, arith}
+use Rattle.source.proofs.Laid.{size_got}
+use Rattle.packed.proofs.Making.{made_laid, made_by}
 use Rattle.packed.proofs.layout.PackedSource.make.Goals as goal
 
-pub invariant_of-result-2 : goal.invariant_of-result-2
-invariant_of-result-2 c =
-    let passed = ap is_err (sym c.check.ensures) ∙ sym c.is_err.ensures.value ∙ c.if-is_err.false in
-    let new = made_new _ _ _ c.args.memory.now _ passed c.words_needed.ensures (omega arith) (omega arith) c.close_all.ensures.ones c.close_all.ensures.rest in
-    record { few = new.0; fits = new.1.laid.fits; agree = new.1.laid.agree; row_ends = new.1.laid.row_ends; col_ends = new.1.laid.col_ends }
+pub invariant_of-result : goal.invariant_of-result
+invariant_of-result c =
+    let gets = size_got c.args.rows c.args.cols _ _ _ _ c.check.ensures.answer c.check.ensures.size (refl, refl) c.unwrap_or-size.ensures in
+    record { laid = made_laid c.args.rows c.args.cols c.args.memory.now _ c.unwrap_or-size.result _ gets c.words_needed.ensures (omega arith) (c.fill.ensures.after (λ y e. e)) }
 
-pub returns : goal.returns
-returns c =
-    let passed = ap is_err (sym c.check.ensures) ∙ sym c.is_err.ensures.value ∙ c.if-is_err.false in
-    let new = made_new _ _ _ c.args.memory.now _ passed c.words_needed.ensures (omega arith) (omega arith) c.close_all.ensures.ones c.close_all.ensures.rest in
-    record { plan = cases_from_ok _ _ _ passed (λ _. new.1); same = refl }
+pub returns-clause-plan : goal.returns-clause-plan
+returns-clause-plan c =
+    let gets = size_got c.args.rows c.args.cols _ _ _ _ c.check.ensures.answer c.check.ensures.size (refl, refl) c.unwrap_or-size.ensures in
+    made_by c.args.rows c.args.cols c.args.memory.now _ c.unwrap_or-size.result _ gets c.words_needed.ensures (omega arith) (c.fill.ensures.after (λ y e. e))

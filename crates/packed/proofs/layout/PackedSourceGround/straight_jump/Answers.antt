@@ -1,5 +1,4 @@
 use Rattle.std.proofs.Common.{◌≡◌, sym, ap, ◌∙◌}
-use Rattle.packed.specs.Layout.{Laid}
 use Rattle.packed.specs.Scans.{upright}
 use Rattle.packed.proofs.Running.{course, straight_scan, closed_jump}
 use Rattle.packed.proofs.layout.PackedSourceGround.straight_jump.Goals as goal
@@ -11,13 +10,12 @@ returns-then-not-is_free c = closed_jump _ c.args.towards c.args.cell (sym c.is_
 pub returns : goal.returns
 returns c =
     let self = c.args.self.now in
-    let laid : Laid self.rows self.cols self.words.now = record { fits = self.fits; agree = self.agree; row_ends = self.row_ends; col_ends = self.col_ends } in
-    let by = course self.rows self.cols c.args.cell in
+    let by = course self.size.rows self.size.cols c.args.cell in
     let chosen : c.if-is_upright.line ≡ by (upright c.args.towards) = elim c.if-is_upright.branch [
       | then-is_upright w ↦
           w.line-is ∙ (λ i. (w.by_columns.ensures i, c.args.cell.col, c.args.cell.row)) ∙ ap by (sym (sym c.is_upright.ensures ∙ w.if-is_upright.true))
       | else-is_upright w ↦
           w.line-is ∙ (λ i. (w.by_rows.ensures i, c.args.cell.row, c.args.cell.col)) ∙ ap by (sym (sym c.is_upright.ensures ∙ w.if-is_upright.false))
     ] in
-    straight_scan self.rows self.cols self.words.now laid c.args.towards c.requires c.args.cell (sym c.is_free.ensures ∙ c.if-not-is_free.false)
+    straight_scan self.size.rows self.size.cols self.words.now self.laid c.args.towards c.requires c.args.cell (sym c.is_free.ensures ∙ c.if-not-is_free.false)
     _ _ _ _ chosen c.way_of.ensures c.lines_around.ensures c.scan.ensures
