@@ -8,7 +8,7 @@ use floor::Counts;
 use rates::counter::CounterRate;
 use search::entry::Entry;
 use search::graph::{Edge, Graph, Position};
-use search::search;
+use search::{Work, search};
 use std::io;
 
 const RUNGS: u32 = 10;
@@ -63,8 +63,11 @@ impl Graph for Ladder {
 fn climb(rt: &HostRuntime, top: u32) -> io::Result<()> {
     let mut entries = [Entry::BLANK; 12];
     let mut waiting = [0u32; 12];
-    let ladder = Ladder { top };
-    let Some(found) = search(&ladder, &CounterRate, &mut entries, &mut waiting) else {
+    let mut work = Work {
+        entries: &mut entries,
+        waiting: &mut waiting,
+    };
+    let Some(found) = search(&Ladder { top }, &CounterRate, &mut work) else {
         return println!(rt; "{top}: no way up");
     };
     let straight = found.counts.straight;

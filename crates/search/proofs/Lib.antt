@@ -3,3 +3,4 @@ pub mod Steps
 pub mod Queues
 pub mod Outcome
 pub mod Backward
+pub mod Moves

@@ -1,6 +1,6 @@
 -- One turn of the search, and what its answers say. That no chain past the most steps is followed costs nothing: what is no dearer than
 -- a short chain is within them.
-use Rattle.std.proofs.Common.{◌≡◌, ℕ, ◌*◌, ◌<◌, ◌≤◌, Bool, true, false, ◌⊎◌, List, [], length, get_or, Option, sym, ap, ◌∙◌, subst, inl, inr, arith}
+use Rattle.std.proofs.Common.{◌≡◌, ℕ, ◌*◌, ◌<◌, ◌≤◌, Bool, true, false, ◌⊎◌, List, length, get_or, Option, sym, ap, ◌∙◌, subst, inl, inr, arith}
 use Rattle.std.proofs.lemmas.Bool.{cases_eq, cases_lt, both_ways}
 use Rattle.floor.specs.declared.Counts.{Counts}
 use Rattle.floor.specs.Tally.{counts, steps, blocks}
@@ -15,7 +15,7 @@ use Rattle.search.specs.Chain.{most, Chain, Sound}
 use Rattle.search.specs.declared.entry.Entry.{Entry}
 use Rattle.search.specs.Mark.{Mark, Waits, Done, how, way, blank, key, marks, is_done, is_waiting, finished, Becomes}
 use Rattle.search.specs.Search.{NoDearer, Search, Cheapest, NoWay}
-use Rattle.search.specs.Queue.{Queue, First}
+use Rattle.search.specs.Queue.{First}
 use Rattle.search.proofs.Marks as written
 use Rattle.search.proofs.Steps as walk
 use Rattle.search.proofs.Queues as queues
@@ -124,7 +124,3 @@ module _ (n : ℕ) (out : Position → ℕ → Option Edge) (goal : ℕ → Bool
       let l = sh.short in
       let b = walk.all_done n out sound.fits order law s q base i idle sh.place sh.counts sh.chain (omega arith) in
       both_ways _ (others sh.place (ap is_done b.1)) sh.hit
-
--- nothing waits in an empty queue
-pub idle : (order : Counts → Counts → Comparison) (n : ℕ) (s : ℕ → Mark) (slot : ℕ → ℕ) → Queue order n s slot [] → (j : ℕ) (b : Reached) → s j ≡ Waits b → ⊥
-idle order n s slot queue j b w = queues.none_there j (queue.listed j (ap is_waiting w))

@@ -16,7 +16,7 @@ use Rattle.waiting.proofs.Ends as ends
 use Rattle.search.specs.declared.entry.Reached.{Reached}
 use Rattle.search.specs.Mark.{Mark, Unmet, Waits, Done, is_waiting, key, Becomes}
 use Rattle.search.specs.Search.{NoDearer}
-use Rattle.search.specs.Queue.{tie_broken, sooner, turns, sooner_rank, Stands, Queue, First, Left}
+use Rattle.search.specs.Queue.{tie_broken, sooner, turns, sooner_rank, Stands, Queue, First}
 use Rattle.search.proofs.Marks.{count_le, count_lt, count_up, count_same, count_none}
 
 has_rest : (x p : ℕ) (xs : List ℕ) → Has xs p → Has (x ∷ xs) p
@@ -64,6 +64,10 @@ gone_first : (c : Comparison) (p : ℕ) → at_least c ≡ true → tie_broken c
 gone_first Cheaper p h = absurd (both_ways false refl h)
 gone_first Same p h = le-ltb p p (omega arith)
 gone_first Dearer p h = refl
+
+-- the queue is right as soon as p is finished
+unfoldable pub Left : (Counts → Counts → Comparison) → ℕ → (ℕ → Mark) → (ℕ → ℕ) → List ℕ → ℕ → Type 0
+Left order n s slot qs p = (s' : ℕ → Mark) (r : Reached) → Becomes s s' p (Done r) → Queue order n s' slot qs
 
 module _ (order : Counts → Counts → Comparison) (n : ℕ) where
   -- The heap of places other than p stays one as p changes.
@@ -222,6 +226,3 @@ empty order n s slot clean = record {
 -- the heap of as many places, by the same order
 pub heap_as : (order order' : Counts → Counts → Comparison) (n n' : ℕ) (s : ℕ → Mark) (slot : ℕ → ℕ) (qs : List ℕ) → order' ≡ order → n' ≡ n → Heap (turns order' s) (Stands n' s slot) qs → Heap (turns order s) (Stands n s slot) qs
 heap_as order order' n n' s slot qs o e h = subst (λ b. Heap (turns b s) (Stands n s slot) qs) o (subst (λ m. Heap (turns order' s) (Stands m s slot) qs) e h)
-
-pub none_there : (p : ℕ) → Has [] p → ⊥
-none_there p h = all-has (λ _. ⊥) [] p tt h

@@ -1,5 +1,5 @@
 -- What the search keeps at each of its steps, over a state that is a function from places to marks.
-use Rattle.std.proofs.Common.{◌≡◌, ℕ, ◌+◌, ◌<◌, ◌≤◌, Bool, ◌⊎◌, Some, None, Option, sym, refl, ap, ◌∙◌, subst, inl, inr, arith}
+use Rattle.std.proofs.Common.{◌≡◌, ℕ, ◌+◌, ◌<◌, ◌≤◌, Bool, ◌⊎◌, Some, Option, sym, refl, ap, ◌∙◌, subst, inl, inr, arith}
 use Rattle.std.proofs.lemmas.Bool.{cases_eq}
 use Rattle.floor.specs.declared.Counts.{Counts}
 use Rattle.floor.specs.Tally.{counts, none, plus, steps, blocks}
@@ -273,16 +273,7 @@ module _ (n : ℕ) (out : Position → ℕ → Option Edge) (fits : (p : Positio
       first_closed Start b t e f skip one is low = absurd (let z : t < 0 = skip refl in omega arith)
       first_closed (Place k) b t e f skip one is low = absurd (not_done (s k) b (clean k) f)
 
-  -- The three ways in which an edge need not be noted.
-  pub no_edge : (s : ℕ → Mark) (q : Position) (base : Reached) (turn : ℕ) → Search out order s q base turn → out q turn ≡ None → Search out order s q base (turn + 1)
-  no_edge s q base turn i z = onward s q base turn i (λ e is _. absurd (let h : None ≡ Some e = sym z ∙ is in let y : ◌≡◌ {A = ℕ} 0 1 = cc in omega arith))
-
-  pub too_far : (s : ℕ → Mark) (q : Position) (base : Reached) (turn : ℕ) (e : Edge) → Search out order s q base turn → out q turn ≡ Some e → most < steps (plus base.counts e.counts) → Search out order s q base (turn + 1)
-  too_far s q base turn e i is far = onward s q base turn i (λ a is' low.
-      let ea : e ≡ a = (let h : Some e ≡ Some a = sym is ∙ is' in cc) in
-      let low' : steps (plus base.counts e.counts) ≤ most = subst (λ (x : Edge). steps (plus base.counts x.counts) ≤ most) (sym ea) low in
-      absurd (let y : ⊥ = omega arith in y))
-
+  -- An edge need not be noted to a place that was seen and costs no more.
   pub seen_cheaper : (s : ℕ → Mark) (q : Position) (base : Reached) (turn : ℕ) (e : Edge) (r : Reached) → Search out order s q base turn → out q turn ≡ Some e → Seen s e.to r
       → NoDearer order r.counts (plus base.counts e.counts) → Search out order s q base (turn + 1)
   seen_cheaper s q base turn e r i is seen cheap = onward s q base turn i (λ a is' low.

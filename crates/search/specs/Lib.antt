@@ -3,3 +3,5 @@ pub mod Mark
 pub mod Search
 pub mod Queue
 pub mod Answer
+pub mod Work
+pub mod Frontier

@@ -1,5 +1,5 @@
 -- The places that wait, in the order in which they are to be finished.
-use Rattle.std.specs.Prelude.{◌≡◌, ℕ, ◌^◌, ◌<◌, ◌≤◌, Bool, true, false, List, length, take, Option, ◌≢◌, nat_lt, refl}
+use Rattle.std.specs.Prelude.{◌≡◌, ℕ, ◌<◌, Bool, true, false, List, length, ◌≢◌, nat_lt, refl}
 use Rattle.std.proofs.Common.{sym, ap, subst, ◌∙◌, arith}
 use Rattle.std.specs.Cmp.{IsStrictWeakOrder}
 use Rattle.std.specs.List.{ContainsAt as Has}
@@ -10,12 +10,7 @@ use Rattle.rate.specs.declared.Comparison.TheVariants.{Cheaper, Same, Dearer}
 use Rattle.rate.specs.Laws.{turned, at_least, Lawful}
 use Rattle.waiting.specs.Order as waiting
 use Rattle.waiting.specs.Heap.{Heap}
-use Rattle.search.specs.declared.graph.Position.{Position}
-use Rattle.search.specs.declared.graph.Edge.{Edge}
-use Rattle.search.specs.declared.entry.Reached.{Reached}
-use Rattle.search.specs.declared.entry.Entry.{Entry}
-use Rattle.search.specs.Mark.{Mark, Done, marks, slots, is_waiting, key, count, Becomes}
-use Rattle.search.specs.Search.{Search}
+use Rattle.search.specs.Mark.{Mark, is_waiting, key, count}
 
 abbrev pub tie_broken : Comparison → Bool → Bool
 tie_broken Cheaper lower = true
@@ -41,27 +36,11 @@ pub record Queue (order : Counts → Counts → Comparison) (n : ℕ) (s : ℕ �
   pub listed : (p : ℕ) → is_waiting (s p) ≡ true → Has qs p
   pub many : length qs ≡ count (λ k. is_waiting (s k)) n
 
--- so many of the waiting list are the queue, and there is room for every place
-pub record Queued (order : Counts → Counts → Comparison) (es : List Entry) (waiting : List ℕ) (len : ℕ) : Type 0 where
-  pub few : length es ≤ 2 ^ 32
-  pub roomy : length es ≤ length waiting
-  pub long : len ≤ length waiting
-  pub queue : Queue order (length es) (marks es) (slots es) (take len waiting)
-
 -- the place p below n waits, and every other place that waits goes after it
 pub record First (order : Counts → Counts → Comparison) (n : ℕ) (s : ℕ → Mark) (p : ℕ) : Type 0 where
   pub within : p < n
   pub waits : is_waiting (s p) ≡ true
   pub first : (j : ℕ) → is_waiting (s j) ≡ true → (j ≢ p) → turns order s p j ≡ true
-
--- the queue is right as soon as p is finished
-unfoldable pub Left : (Counts → Counts → Comparison) → ℕ → (ℕ → Mark) → (ℕ → ℕ) → List ℕ → ℕ → Type 0
-Left order n s slot qs p = (s' : ℕ → Mark) (r : Reached) → Becomes s s' p (Done r) → Queue order n s' slot qs
-
--- the search and its queue, as the edges of q from turn on are to be followed
-pub record Standing (out : Position → ℕ → Option Edge) (order : Counts → Counts → Comparison) (es : List Entry) (waiting : List ℕ) (len : ℕ) (q : Position) (base : Reached) (turn : ℕ) : Type 0 where
-  pub search : Search out order (marks es) q base turn
-  pub queued : Queued order es waiting len
 
 -- The order of places keeps the laws of an order with an index.
 rank_one_way : (c : Comparison) (a b : ℕ) → tie_broken c (nat_lt a b) ≡ true → tie_broken (turned c) (nat_lt b a) ≡ false

@@ -10,6 +10,7 @@ use floor::Counts;
 pub const MOST_STEPS: u32 = 32_768;
 
 // Where a chain of edges stands: at its start, or at a place.
+// Kept: it is no Option, since a chain that is at its start stands somewhere, and None would read as nowhere.
 #[derive(Clone, Copy)]
 pub enum Position {
     Start,
@@ -36,6 +37,7 @@ pub trait Graph {
     fn places(&self) -> usize
         ensures { result ≡ size self.now };
 
+    // Kept: a turn is a count here and no kind; what it means is the graph's own.
     fn edge(&self, from: Position, turn: u8) -> Option<Edge>
         requires { Inside (size self.now) from × (turn < 8) }
         ensures { result ≡ out self.now from turn };

@@ -1,2 +1,3 @@
 pub mod Order
 pub mod Heap
+pub mod Held

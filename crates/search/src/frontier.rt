@@ -1,0 +1,229 @@
+// The places that a search has reached: the entries of all, and those that wait, in the order in which they are to be finished.
+ghost use Rattle.std.specs.Prelude.{◌≡◌, ℕ, ◌+◌, ◌^◌, ◌<◌, ◌≤◌, true, false, MatchOption, length, ◌≢◌, slice_index_or};
+ghost use Rattle.floor.specs.Tally.{plus, steps};
+ghost use Rattle.search.specs.Chain.{most};
+ghost use Rattle.search.specs.Mark.{Unmet, Waits, Done, marks, slots, way, key, how, blank, is_waiting, finished, Becomes};
+ghost use Rattle.search.specs.Search.{NoDearer, Noted};
+ghost use Rattle.search.specs.Queue.{sooner as before, turns, Waiter, Stands, Kept, places_lawful, First};
+ghost use Rattle.search.specs.Answer.{Answered};
+ghost use Rattle.search.specs.Frontier.{Queued, Standing, SameFrontier};
+
+use crate::Found;
+use crate::entry::{Entry, Reached, State};
+use crate::graph::{Graph, MOST_STEPS, Position};
+use floor::Counts;
+use rate::{Comparison, Rate};
+use waiting::{Order, Waiting};
+
+// Where a place stands among those that wait: by its key, and at equal cost the lower number first.
+#[derive(Clone, Copy)]
+struct Rank {
+    key: Counts,
+    place: u32,
+}
+
+impl Rank {
+    // The key is the counts with which the place was reached.
+    fn of(entry: Entry, place: u32) -> Rank
+        ensures key { result.key ≡ (way entry).counts }
+        ensures place { result.place ≡ place }
+    {
+        Rank {
+            key: entry.reached().counts,
+            place,
+        }
+    }
+}
+
+// Whether the first goes before the second. It is here that the rate is asked.
+fn sooner<R: Rate>(rate: &R, first: Rank, second: Rank) -> bool
+    ensures { result ≡ before (R.Rate.order rate.now) first.key first.place second.key second.place }
+{
+    match rate.compare(first.key, second.key) {
+        Comparison::Cheaper => true,
+        Comparison::Same => first.place < second.place,
+        Comparison::Dearer => false,
+    }
+}
+
+// The order of the places that wait, and the index of where they stand, which their entries hold.
+#[derive(Drop)]
+struct ByCost<'a, R> {
+    entries: &'a mut [Entry],
+    rate: &'a R,
+}
+
+impl<'a, R: Rate> Order<u32> for ByCost<'a, R> {
+    ghost before = { λ s. turns (R.Rate.order s.rate.now) (marks s.entries.now) };
+
+    ghost knows = { λ s. Waiter (length s.entries.now) (marks s.entries.now) };
+
+    ghost stands = { λ s. Stands (length s.entries.now) (marks s.entries.now) (slots s.entries.now) };
+
+    ghost apart = { λ a b. a ≢ b };
+
+    ghost same = { Kept (λ o. R.Rate.order o.rate.now) (λ o. marks o.entries.now) (λ o. length o.entries.now) (λ o. o.entries.ghost_name) };
+
+    ghost lawful = { places_lawful (λ o. R.Rate.order o.rate.now) (λ o. R.Rate.lawful o.rate.now) (λ o. marks o.entries.now) (λ o. length o.entries.now) (λ o. o.entries.ghost_name) (λ o. slots o.entries.now) };
+
+    fn goes_before(&self, a: &u32, b: &u32) -> bool {
+        let first = Rank::of(self.entries[*a as usize], *a);
+        let second = Rank::of(self.entries[*b as usize], *b);
+        sooner(self.rate, first, second)
+    }
+
+    fn placed(&mut self, item: &u32, slot: usize) {
+        self.entries[*item as usize].slot = slot as u32;
+    }
+}
+
+// The entries of all places, and those places that wait.
+// Kept: the queue is no invariant of the type; it is wrong between the write of an entry and the move in the heap that follows.
+// Kept: the order is made anew at each move in the heap: within this struct it would hold the entries, and what they are when both are let go is not proved.
+#[derive(Drop)]
+pub(crate) struct Frontier<'a, 'b, R> {
+    pub(crate) entries: &'a mut [Entry],
+    pub(crate) rate: &'a R,
+    pub(crate) places: &'a mut Waiting<'b, u32>,
+}
+
+impl<'a, 'b, R: Rate> Frontier<'a, 'b, R> {
+    // Lets a place wait that does not.
+    fn add(&mut self, place: u32, new: Reached)
+        requires within { (place < length self.old.entries.now) × (steps new.counts ≤ most) }
+        requires queued { Queued R.Rate.order self.old }
+        requires idle { is_waiting (marks self.old.entries.now place) ≡ false }
+        ensures queued { Queued R.Rate.order self.new }
+        ensures new { Becomes (marks self.old.entries.now) (marks self.new.entries.now) place (Waits new) }
+        ensures same { SameFrontier self.old self.new }
+    {
+        self.entries[place as usize] = Entry::waiting(new, 0);
+        let order = &mut ByCost {
+            entries: &mut *self.entries,
+            rate: self.rate,
+        };
+        self.places.put(place, order);
+    }
+
+    // Makes a place cheaper that waits.
+    fn improve(&mut self, place: u32, new: Reached)
+        requires within { (place < length self.old.entries.now) × (steps new.counts ≤ most) }
+        requires queued { Queued R.Rate.order self.old }
+        requires waits { is_waiting (marks self.old.entries.now place) ≡ true }
+        requires better { NoDearer (R.Rate.order self.old.rate.now) new.counts (key (marks self.old.entries.now place)) }
+        ensures queued { Queued R.Rate.order self.new }
+        ensures new { Becomes (marks self.old.entries.now) (marks self.new.entries.now) place (Waits new) }
+        ensures same { SameFrontier self.old self.new }
+    {
+        let slot = self.entries[place as usize].slot;
+        self.entries[place as usize] = Entry::waiting(new, slot);
+        let order = &mut ByCost {
+            entries: &mut *self.entries,
+            rate: self.rate,
+        };
+        self.places.raise(slot as usize, order);
+    }
+
+    // Finishes the first of the places that wait, if any does.
+    pub(crate) fn finish_first(&mut self) -> Option<u32>
+        requires queued { Queued R.Rate.order self.old }
+        ensures first { MatchOption result ((k : ℕ) → is_waiting (marks self.old.entries.now k) ≡ false) (λ place. First (R.Rate.order self.old.rate.now) (length self.old.entries.now) (marks self.old.entries.now) place) }
+        ensures new { MatchOption result (marks self.new.entries.now ≡ marks self.old.entries.now) (λ place. Becomes (marks self.old.entries.now) (marks self.new.entries.now) place (Done (how (marks self.old.entries.now place)))) }
+        ensures queued { Queued R.Rate.order self.new }
+        ensures same { SameFrontier self.old self.new }
+    {
+        let order = &mut ByCost {
+            entries: &mut *self.entries,
+            rate: self.rate,
+        };
+        let place = self.places.take_first(order)?;
+        self.entries[place as usize].state = State::Finished;
+        Some(place)
+    }
+
+    // Notes that a place can be reached so.
+    fn note(&mut self, place: u32, new: Reached)
+        requires within { (place < length self.old.entries.now) × (steps new.counts ≤ most) }
+        requires queued { Queued R.Rate.order self.old }
+        ensures queued { Queued R.Rate.order self.new }
+        ensures noted { Noted (R.Rate.order self.old.rate.now) (marks self.old.entries.now) (marks self.new.entries.now) place new }
+        ensures same { SameFrontier self.old self.new }
+    {
+        let entry = self.entries[place as usize];
+        match entry.state {
+            State::Unseen => self.add(place, new),
+            State::Waiting => {
+                let was = Rank::of(entry, place);
+                let offered = Rank {
+                    key: new.counts,
+                    ..was
+                };
+                if sooner(self.rate, offered, was) {
+                    self.improve(place, new);
+                }
+            }
+            State::Finished => {}
+        }
+    }
+
+    // Follows the edge of one turn out of a finished position.
+    fn follow<G: Graph>(&mut self, graph: &G, from: Position, base: Reached, turn: u8)
+        requires sized { length self.old.entries.now ≡ G.Graph.size graph.now }
+        requires turn { turn < 8 }
+        requires standing { Standing R.Rate.order (G.Graph.out graph.now) self.old from base turn }
+        ensures standing { Standing R.Rate.order (G.Graph.out graph.now) self.new from base (turn + 1) }
+        ensures finished { finished self.new.entries.now ≡ finished self.old.entries.now }
+        ensures same { SameFrontier self.old self.new }
+    {
+        let Some(edge) = graph.edge(from, turn) else {
+            return;
+        };
+        let counts = base.counts + edge.counts;
+        if counts.straight + counts.diagonal <= MOST_STEPS {
+            self.note(edge.to, Reached { counts, from });
+        }
+    }
+
+    // Follows the edges of all eight turns.
+    pub(crate) fn follow_all<G: Graph>(&mut self, graph: &G, from: Position, base: Reached)
+        requires sized { length self.old.entries.now ≡ G.Graph.size graph.now }
+        requires standing { Standing R.Rate.order (G.Graph.out graph.now) self.old from base 0 }
+        ensures standing { Standing R.Rate.order (G.Graph.out graph.now) self.new from base 8 }
+        ensures finished { finished self.new.entries.now ≡ finished self.old.entries.now }
+        ensures same { SameFrontier self.old self.new }
+    {
+        for turn in 0..8u8 {
+            self.follow(graph, from, base, turn);
+        }
+    }
+
+    // Finishes places, the first of those that wait at a time, until one of them is a goal.
+    pub(crate) fn reach_goal<G: Graph>(&mut self, graph: &G) -> Option<Found>
+        requires sized { length self.old.entries.now ≡ G.Graph.size graph.now }
+        requires clean { (k : ℕ) → marks self.old.entries.now k ≡ Unmet }
+        requires queued { Queued R.Rate.order self.old }
+        ensures answered { Answered (G.Graph.out graph.now) (R.Rate.order self.old.rate.now) (G.Graph.goal graph.now) self.new.entries.now result }
+        ensures same { SameFrontier self.old self.new }
+    {
+        let mut finished = 0;
+        let mut from = Position::Start;
+        let mut base = Reached {
+            counts: Counts::NONE,
+            from: Position::Start,
+        };
+        loop {
+            self.follow_all(graph, from, base);
+            let place = self.finish_first()?;
+            finished += 1;
+            base = self.entries[place as usize].reached();
+            if graph.is_goal(place) {
+                return Some(Found {
+                    place,
+                    counts: base.counts,
+                    finished,
+                });
+            }
+            from = Position::Place(place);
+        }
+    }
+}
