@@ -16,7 +16,7 @@ use Rattle.lengths.specs.Questions.{first_no, length_questions}
 use Rattle.lengths.specs.Answers.{CostTold}
 use Rattle.planner.specs.Loops.{Looped, LoopTold}
 use Rattle.history.specs.Calls.{Asked, to_open, to_close, a_length, a_route, a_loop, Told, changed, cost, drawn, toured, Changed, Costed, Drawn, Toured, Right, SameCost, SameLegs, Alike}
-use Rattle.history.proofs.Loops.{all_legs, loop_by, few_legs}
+use Rattle.planner.proofs.Wholes.{legs_tour, all_legs, loop_by, few_legs}
 
 module _ (order : Counts → Counts → Comparison) (law : Lawful order) (may : Laying) (fair : Fair may) (p : Plan) (z : Sized p) where
   same_error : {E : Type 0} (r q : Result Counts E) (e : E) → r ≡ Err e → q ≡ Err e → SameCost order r q
@@ -54,10 +54,7 @@ module _ (order : Counts → Counts → Comparison) (law : Lawful order) (may : 
 
     -- a loop's legs are a route for it
     tour : (ls : List Leg) (ns : List Counts) → CheapestLegs order may p ls ns → Tour may p ls ns
-    tour [] [] c = tt
-    tour [] (n ∷ ns) c = absurd c
-    tour (l ∷ ls) [] c = absurd c
-    tour (l ∷ ls) (n ∷ ns) c = (c.0.route, tour ls ns c.1)
+    tour = legs_tour order may p p (λ x y n r. r)
 
     same_total : (ls : List Leg) → length ls ≤ 64 → (ns ms : List Counts) → CheapestLegs order may p ls ns → CheapestLegs order may p ls ms → order (total ns) (total ms) ≡ Same
     same_total ls few ns ms a b =

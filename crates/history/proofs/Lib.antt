@@ -1,4 +1,3 @@
-pub mod Loops
 pub mod Alike
 pub mod Opening
 pub mod Measuring

@@ -13,7 +13,8 @@ use Rattle.planner.specs.declared.answers.LoopRefusal.TheVariants as loop
 use Rattle.planner.specs.Loops.{loop_questions, Looped, LoopTold}
 use Rattle.planner.specs.Touring.{Toured}
 use Rattle.history.specs.Records.{measured_legs}
-use Rattle.history.proofs.Loops.{legs_length, loop_by}
+use Rattle.planner.proofs.Legs.{legs_length}
+use Rattle.planner.proofs.Wholes.{loop_by}
 
 -- the number of the leg after those measured, where the legs from number k on are so many
 abbrev after_those : ℕ → ℕ → Result Counts LoopRefusal → ℕ

@@ -16,7 +16,8 @@ use Rattle.lengths.specs.Questions.{Question, first_no, length_questions, route_
 use Rattle.lengths.specs.Answers.{CostTold}
 use Rattle.planner.specs.Loops.{Looped, LoopTold}
 use Rattle.history.specs.Calls.{Asked, to_open, to_close, a_length, a_route, a_loop, Told, changed, cost, drawn, toured, Changed, Costed, Drawn, Toured, Right, length_in}
-use Rattle.history.proofs.Loops.{yes_first, all_legs, loop_by, few_legs}
+use Rattle.lengths.proofs.Asked.{yes_first}
+use Rattle.planner.proofs.Wholes.{legs_tour, all_legs, loop_by, few_legs}
 
 -- questions that are answered yes in one list, in the same order, are in the other
 abbrev Yes : {A : Type 0} → List (Question A) → List (Question A) → Type 0
@@ -74,10 +75,7 @@ module _ (order : Counts → Counts → Comparison) (law : Lawful order) (may : 
     legs_kept some all k (l ∷ ls) (m ∷ ns) (m' ∷ ms) n r a b = legs_kept some all (k + 1) ls ns ms n r a.1 b.1
 
     grown_tour : (ls : List Leg) (ns : List Counts) → CheapestLegs order may p ls ns → Tour may q ls ns
-    grown_tour [] [] c = tt
-    grown_tour [] (n ∷ ns) c = absurd c
-    grown_tour (l ∷ ls) [] c = absurd c
-    grown_tour (l ∷ ls) (n ∷ ns) c = (grown may fair (opens p) (opens q) grow c.0.route, grown_tour ls ns c.1)
+    grown_tour = legs_tour order may p q (λ x y n r. grown may fair (opens p) (opens q) grow r)
 
     loop_kept : (cells : List Cell) (l : ℕ) (ns ms : List Counts) (n : Counts) (r : Result Counts LoopRefusal) →
         LoopTold order may p cells w v l ns (Ok n) → LoopTold order may q cells w v l ms r → (m : Counts) × (r ≡ Ok m) × AtLeast order n m

@@ -13,9 +13,9 @@ use Rattle.history.specs.Calls.{Asked, to_open, to_close, a_length, a_route, a_l
 abbrev pub asked : Call → Asked
 asked (call.Open c) = to_open c
 asked (call.Close c) = to_close c
-asked (call.Length s t w v) = a_length s t w v
-asked (call.Route s t w v c) = a_route s t w v c
-asked (call.Loop cs w v l) = a_loop (vec_items cs) w v l
+asked (call.Length s t r) = a_length s t r.entries r.waiting
+asked (call.Route s t r c) = a_route s t r.entries r.waiting c
+asked (call.Loop cs r l) = a_loop (vec_items cs) r.entries r.waiting l
 
 abbrev pub told : Answer → Told
 told (answer.Changed r) = changed r

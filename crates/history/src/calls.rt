@@ -1,6 +1,6 @@
 // A call of a planner, and its answer, as they are recorded.
 use floor::{Cell, Counts};
-use lengths::{Drawn, Measured, Refusal};
+use lengths::{Drawn, Measured, Refusal, Room};
 use planner::LoopRefusal;
 
 // What is asked, with the lengths of the lists that the call lends.
@@ -11,20 +11,17 @@ pub enum Call {
     Length {
         start: Cell,
         target: Cell,
-        entries: usize,
-        waiting: usize,
+        room: Room,
     },
     Route {
         start: Cell,
         target: Cell,
-        entries: usize,
-        waiting: usize,
+        room: Room,
         corners: usize,
     },
     Loop {
         cells: Vec<Cell>,
-        entries: usize,
-        waiting: usize,
+        room: Room,
         legs: usize,
     },
 }

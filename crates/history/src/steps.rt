@@ -8,12 +8,41 @@ ghost use Rattle.history.specs.Records.{asked, told, measured_legs};
 
 use crate::calls::{Answer, Call};
 use floor::{Cell, Counts};
-use lengths::{Drawn, Measured, Refusal};
-use planner::{LoopRefusal, Planner};
+use lengths::{Drawn, Measured, Refusal, Room};
+use planner::{Entry, LoopRefusal, Planner, Work};
 use rate::Rate;
-use search::entry::Entry;
 use source::JumpSource;
 use std::alloc::{AllocError, Global};
+
+// The two work lists of a call.
+#[derive(Drop)]
+struct Lists {
+    entries: Vec<Entry>,
+    waiting: Vec<u32>,
+}
+
+impl Lists {
+    // Lists of these lengths.
+    fn new(heap: Global, room: Room) -> Result<Lists, AllocError>
+        ensures { IfOk result (λ lists. (vec_len lists.entries ≡ room.entries) × (vec_len lists.waiting ≡ room.waiting)) }
+    {
+        Ok(Lists {
+            entries: vec![in heap; Entry::BLANK; room.entries]?,
+            waiting: vec![in heap; 0u32; room.waiting]?,
+        })
+    }
+
+    // The lists, lent for a call.
+    fn work(&mut self) -> Work<'_>
+        ensures entries { length result.entries.now ≡ vec_len self.old.entries }
+        ensures waiting { length result.waiting.now ≡ vec_len self.old.waiting }
+    {
+        Work {
+            entries: self.entries.as_mut_slice(),
+            waiting: self.waiting.as_mut_slice(),
+        }
+    }
+}
 
 // A length, with work lists of these lengths.
 fn measured<S: JumpSource, R: Rate>(
@@ -21,14 +50,12 @@ fn measured<S: JumpSource, R: Rate>(
     planner: &Planner<S, R>,
     start: Cell,
     target: Cell,
-    entries: usize,
-    waiting: usize,
+    room: Room,
 ) -> Result<Result<Measured, Refusal>, AllocError>
-    ensures { IfOk result (λ x. LengthTold (R.Rate.order planner.now.rate) legal (S.JumpSource.meaning planner.now.source) start target entries waiting (costs x)) }
+    ensures { IfOk result (λ x. LengthTold (R.Rate.order planner.now.rate) legal (S.JumpSource.meaning planner.now.source) start target room.entries room.waiting (costs x)) }
 {
-    let mut work = vec![in heap; Entry::BLANK; entries]?;
-    let mut queue = vec![in heap; 0u32; waiting]?;
-    Ok(planner.length(start, target, work.as_mut_slice(), queue.as_mut_slice()))
+    let mut lists = Lists::new(heap, room)?;
+    Ok(planner.length(start, target, &mut lists.work()))
 }
 
 // A route, with lists of these lengths, and the corners that it wrote.
@@ -37,34 +64,23 @@ fn drawn<S: JumpSource, R: Rate>(
     planner: &Planner<S, R>,
     start: Cell,
     target: Cell,
-    entries: usize,
-    waiting: usize,
+    room: Room,
     corners: usize,
 ) -> Result<(Result<Drawn, Refusal>, Vec<Cell>), AllocError>
-    ensures { IfOk result (λ x. RouteTold (R.Rate.order planner.now.rate) legal (S.JumpSource.meaning planner.now.source) start target entries waiting corners x.1.items (drawn_costs x.0)) }
+    ensures { IfOk result (λ x. RouteTold (R.Rate.order planner.now.rate) legal (S.JumpSource.meaning planner.now.source) start target room.entries room.waiting corners x.1.items (drawn_costs x.0)) }
 {
-    let mut work = vec![in heap; Entry::BLANK; entries]?;
-    let mut queue = vec![in heap; 0u32; waiting]?;
+    let mut lists = Lists::new(heap, room)?;
     let mut bends = vec![in heap; Cell { row: 0, col: 0 }; corners]?;
-    let answer = planner.route(
-        start,
-        target,
-        work.as_mut_slice(),
-        queue.as_mut_slice(),
-        bends.as_mut_slice(),
-    );
-    bends.truncate(written(&answer));
+    let answer = planner.route(start, target, &mut lists.work(), bends.as_mut_slice());
+    bends.truncate(written(answer));
     Ok((answer, bends))
 }
 
 // How many corners a route wrote.
-fn written(answer: &Result<Drawn, Refusal>) -> usize
-    ensures { result ≡ corner_count answer.now }
+fn written(answer: Result<Drawn, Refusal>) -> usize
+    ensures { result ≡ corner_count answer }
 {
-    match answer {
-        Ok(drawn) => drawn.corners,
-        Err(_) => 0,
-    }
+    answer.map_or(0, |drawn| drawn.corners)
 }
 
 // How many legs of a loop of so many cells were measured.
@@ -83,25 +99,14 @@ fn toured<S: JumpSource, R: Rate>(
     heap: Global,
     planner: &Planner<S, R>,
     cells: &[Cell],
-    entries: usize,
-    waiting: usize,
+    room: Room,
     legs: usize,
 ) -> Result<(Result<Counts, LoopRefusal>, Vec<Counts>), AllocError>
-    ensures { IfOk result (λ x. LoopTold (R.Rate.order planner.now.rate) legal (S.JumpSource.meaning planner.now.source) cells.now entries waiting legs x.1.items x.0) }
+    ensures { IfOk result (λ x. LoopTold (R.Rate.order planner.now.rate) legal (S.JumpSource.meaning planner.now.source) cells.now room.entries room.waiting legs x.1.items x.0) }
 {
-    let nothing = Counts {
-        straight: 0,
-        diagonal: 0,
-    };
-    let mut work = vec![in heap; Entry::BLANK; entries]?;
-    let mut queue = vec![in heap; 0u32; waiting]?;
-    let mut counts = vec![in heap; nothing; legs]?;
-    let answer = planner.tour(
-        cells,
-        work.as_mut_slice(),
-        queue.as_mut_slice(),
-        counts.as_mut_slice(),
-    );
+    let mut lists = Lists::new(heap, room)?;
+    let mut counts = vec![in heap; Counts::NONE; legs]?;
+    let answer = planner.tour(cells, &mut lists.work(), counts.as_mut_slice());
     counts.truncate(legs_measured(&answer, cells.len()));
     Ok((answer, counts))
 }
@@ -123,35 +128,19 @@ pub fn answer<S: JumpSource, R: Rate>(
         Call::Length {
             start,
             target,
-            entries,
-            waiting,
-        } => Ok(Answer::Length(measured(heap, planner, *start, *target, *entries, *waiting)?)),
+            room,
+        } => Ok(Answer::Length(measured(heap, planner, *start, *target, *room)?)),
         Call::Route {
             start,
             target,
-            entries,
-            waiting,
+            room,
             corners,
         } => {
-            let (answer, corners) = drawn(
-                heap, planner, *start, *target, *entries, *waiting, *corners,
-            )?;
+            let (answer, corners) = drawn(heap, planner, *start, *target, *room, *corners)?;
             Ok(Answer::Route { answer, corners })
         }
-        Call::Loop {
-            cells,
-            entries,
-            waiting,
-            legs,
-        } => {
-            let (answer, legs) = toured(
-                heap,
-                planner,
-                cells.as_slice(),
-                *entries,
-                *waiting,
-                *legs,
-            )?;
+        Call::Loop { cells, room, legs } => {
+            let (answer, legs) = toured(heap, planner, cells.as_slice(), *room, *legs)?;
             Ok(Answer::Loop { answer, legs })
         }
     }

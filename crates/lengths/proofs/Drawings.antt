@@ -1,7 +1,7 @@
 -- After a search the way back is there, and turned round it is a cheapest route, with no more corners than the plan has cells.
-use Rattle.std.proofs.Common.{◌≡◌, ℕ, suc, ◌+◌, ◌*◌, ◌<◌, ◌≤◌, true, not, ltb, List, [], ◌∷◌, ◌++◌, length, take, sym, ap, ◌∙◌, subst, arith, length-append}
+use Rattle.std.proofs.Common.{◌≡◌, ℕ, suc, ◌+◌, ◌*◌, ◌≤◌, true, not, List, [], ◌∷◌, ◌++◌, length, take, sym, ap, ◌∙◌, arith, length-append}
 use Rattle.std.proofs.lemmas.List.{length-map}
-use Rattle.std.proofs.lemmas.Bool.{and_parts, ltb-true}
+use Rattle.std.proofs.lemmas.Bool.{and_parts}
 use Rattle.floor.specs.declared.Cell.{Cell}
 use Rattle.floor.specs.declared.Counts.{Counts}
 use Rattle.floor.specs.Tally.{steps}
@@ -33,7 +33,7 @@ module _ (order : Counts → Counts → Comparison) (law : Lawful order) (p : Pl
   on_target : cell_of p.cols k ≡ t
   on_target = same_cell_is (cell_of p.cols k) t (and_parts (not (same_cell s t)) (same_cell (cell_of p.cols k) t) f.hit).1
 
-  turned : (cs : List Cell) → Trail p.cols s (marks (take (places p) es)) k cs → Bent legal p s t c (cs ++ cell_of p.cols k ∷ [])
+  pub turned : (cs : List Cell) → Trail p.cols s (marks (take (places p) es)) k cs → Bent legal p s t c (cs ++ cell_of p.cols k ∷ [])
   turned cs tr = bent p s t (marks (take (places p) es)) f.made k cs tr (reached c f.from) f.there on_target
 
   few : (cs : List Cell) → Bent legal p s t c cs → length cs ≤ p.rows * p.cols
@@ -44,23 +44,14 @@ module _ (order : Counts → Counts → Comparison) (law : Lawful order) (p : Pl
       let g = (rivals order law legal legal_fair).simple p s t c z best in
       omega arith
 
-  -- what writing the corners asks for, on a plan of h rows and w columns
-  abbrev pub Ready : ℕ → ℕ → ℕ → Type 0
-  Ready h w l = (0 < w) × ((cs : List Cell) × Trail w s (marks (take (8 * (h * w)) es)) k cs × (length cs + 1 ≤ l)) × Falls (marks (take (8 * (h * w)) es))
+  -- what writing the corners asks for
+  pub record Ready (l : ℕ) : Type 0 where
+    pub way : (cs : List Cell) × Trail p.cols s (marks (take (places p) es)) k cs × (length cs + 1 ≤ l)
+    pub falls : Falls (marks (take (places p) es))
 
-  all_ready : (l : ℕ) → p.rows * p.cols ≤ l → Ready p.rows p.cols l
-  all_ready l room =
+  pub ready : (l : ℕ) → p.rows * p.cols ≤ l → Ready l
+  ready l room =
       let h = trail p s t (marks (take (places p) es)) f.made (suc (steps c)) k (reached c f.from) f.there (omega arith) in
       let a = few (h.0 ++ cell_of p.cols k ∷ []) (turned h.0 h.1) in
       let b = length-append h.0 (cell_of p.cols k ∷ []) in
-      let i = and_parts (ltb s.row p.rows) (ltb s.col p.cols) (and_parts _ _ o).0 in
-      let j = ltb-true s.col p.cols i.1 in
-      (omega arith, (h.0, h.1, omega arith), falls p s t (marks (take (places p) es)) f.made)
-
-  pub ready : (h w l : ℕ) → h ≡ p.rows → w ≡ p.cols → p.rows * p.cols ≤ l → Ready h w l
-  ready h w l eh ew room = subst (λ a. Ready a w l) (sym eh) (subst (λ b. Ready p.rows b l) (sym ew) (all_ready l room))
-
-  pub bent_at : (h w : ℕ) → h ≡ p.rows → w ≡ p.cols → (cs : List Cell) → Trail w s (marks (take (8 * (h * w)) es)) k cs → Bent legal p s t c (cs ++ cell_of w k ∷ [])
-  bent_at h w eh ew cs tr =
-      subst (λ b. Bent legal p s t c (cs ++ cell_of b k ∷ [])) (sym ew)
-      (turned cs (subst (λ a. Trail p.cols s (marks (take (8 * (a * p.cols)) es)) k cs) eh (subst (λ b. Trail b s (marks (take (8 * (h * b)) es)) k cs) ew tr)))
+      record { way = (h.0, h.1, omega arith); falls = falls p s t (marks (take (places p) es)) f.made }

@@ -2,6 +2,7 @@ pub mod Asked
 pub mod Told
 pub mod Counting
 pub mod Entries
+pub mod Lists
 pub mod Bending
 pub mod Trails
 pub mod Writing

@@ -1,4 +1,5 @@
 pub mod Questions
 pub mod Answers
+pub mod Lists
 pub mod Searched
 pub mod Trail

@@ -1,13 +1,15 @@
 // The graph that a length is searched in: the leaps on the floor of a source, from a start and towards a target.
-ghost use Rattle.std.specs.Prelude.{◌≡◌, ℕ, ◌*◌, ◌<◌, if◌then◌else◌, None};
+ghost use Rattle.std.specs.Prelude.{◌≡◌, ℕ, ◌<◌};
 ghost use Rattle.std.specs.Option.{option_map};
 ghost use Rattle.floor.specs.Plane.{point};
 ghost use Rattle.floor.specs.Places.{place as place_at, goes_on, successor as next_of};
-ghost use Rattle.places.specs.Leaps.{cell_of, heading_of, leap, out, goal};
+ghost use Rattle.places.specs.Leaps.{leap, leap_in, out, goal};
 ghost use Rattle.places.proofs.Sound.{sound};
+ghost use Rattle.lengths.specs.Questions.{places as places_of};
 
+use crate::asking::places;
 use floor::{Cell, Heading};
-use places::{cell_of, heading_of, is_same, number_of};
+use places::Place;
 use pruning::{goings_from_place, successor};
 use search::graph::{Edge, Graph, Position};
 use source::JumpSource;
@@ -19,41 +21,45 @@ pub struct Leaps<'a, S> {
     pub target: Cell,
 }
 
-// The edge of the leap from a cell in a heading towards the target, if there is one.
-fn leap_from<S: JumpSource>(source: &S, cell: Cell, heading: Heading, target: Cell) -> Option<Edge>
-    ensures { result ≡ option_map (leap (S.JumpSource.meaning source.now).cols (point cell) heading) (next_of (S.JumpSource.meaning source.now) (point target) (point cell) heading) }
-{
-    let (_, cols) = source.size();
-    let leap = successor(source, cell, heading, target)?;
-    Some(Edge {
-        to: number_of(leap.cell, heading, cols),
-        counts: leap.counts,
-    })
-}
+impl<'a, S: JumpSource> Leaps<'a, S> {
+    // The edge of the leap from a cell in a heading, if there is one.
+    fn from_cell(&self, cell: Cell, heading: Heading) -> Option<Edge>
+        ensures { result ≡ option_map (leap (S.JumpSource.meaning self.now.source.now).cols (point cell) heading) (next_of (S.JumpSource.meaning self.now.source.now) (point self.now.target) (point cell) heading) }
+    {
+        let leap = successor(self.source, cell, heading, self.target)?;
+        let place = Place {
+            cell: leap.cell,
+            heading,
+        };
+        Some(Edge {
+            to: place.number(self.source.size().cols),
+            counts: leap.counts,
+        })
+    }
 
-// Whether a place goes on in a heading.
-fn goes_on<S: JumpSource>(source: &S, cell: Cell, arrival: Heading, heading: Heading) -> bool
-    ensures { result ≡ goes_on (S.JumpSource.meaning source.now) (place_at (point cell) arrival) heading }
-{
-    goings_from_place(source, cell, arrival)[usize::from(heading.number())]
-}
+    // Whether a place goes on in a heading.
+    fn goes_on(&self, place: Place, heading: Heading) -> bool
+        ensures { result ≡ goes_on (S.JumpSource.meaning self.now.source.now) (place_at (point place.cell) place.heading) heading }
+    {
+        goings_from_place(self.source, place.cell, place.heading)[usize::from(heading)]
+    }
 
-// The edge of the leap from a place in a heading, if it goes on so.
-fn leap_on<S: JumpSource>(source: &S, place: u32, heading: Heading, target: Cell) -> Option<Edge>
-    requires { 0 < (S.JumpSource.meaning source.now).cols }
-    ensures { result ≡ (if goes_on (S.JumpSource.meaning source.now) (place_at (point (cell_of (S.JumpSource.meaning source.now).cols place)) (heading_of place)) heading then option_map (leap (S.JumpSource.meaning source.now).cols (point (cell_of (S.JumpSource.meaning source.now).cols place)) heading) (next_of (S.JumpSource.meaning source.now) (point target) (point (cell_of (S.JumpSource.meaning source.now).cols place)) heading) else None) }
-{
-    let (_, cols) = source.size();
-    let cell = cell_of(place, cols);
-    if goes_on(source, cell, heading_of(place), heading) {
-        leap_from(source, cell, heading, target)
-    } else {
-        None
+    // The edge of the leap from a place in a heading, if it goes on so.
+    fn from_place(&self, number: u32, heading: Heading) -> Option<Edge>
+        requires { 0 < (S.JumpSource.meaning self.now.source.now).cols }
+        ensures { result ≡ leap_in (S.JumpSource.meaning self.now.source.now) self.now.start self.now.target (Position.Place number) heading }
+    {
+        let place = Place::numbered(number, self.source.size().cols);
+        if self.goes_on(place, heading) {
+            self.from_cell(place.cell, heading)
+        } else {
+            None
+        }
     }
 }
 
 impl<'a, S: JumpSource> Graph for Leaps<'a, S> {
-    ghost size = { λ g. 8 * ((S.JumpSource.meaning g.source.now).rows * (S.JumpSource.meaning g.source.now).cols) };
+    ghost size = { λ g. places_of (S.JumpSource.meaning g.source.now) };
 
     ghost out = { λ g. out (S.JumpSource.meaning g.source.now) g.start g.target };
 
@@ -62,20 +68,19 @@ impl<'a, S: JumpSource> Graph for Leaps<'a, S> {
     ghost sound = { λ g. sound (S.JumpSource.meaning g.source.now) (S.JumpSource.sized g.source.now) g.start g.target };
 
     fn places(&self) -> usize {
-        let (rows, cols) = self.source.size();
-        8 * (rows * cols)
+        places(self.source)
     }
 
     fn edge(&self, from: Position, turn: u8) -> Option<Edge> {
-        let heading = Heading::numbered(turn)?;
+        let heading = Heading::try_from(turn).ok()?;
         match from {
-            Position::Start => leap_from(self.source, self.start, heading, self.target),
-            Position::Place(place) => leap_on(self.source, place, heading, self.target),
+            Position::Start => self.from_cell(self.start, heading),
+            Position::Place(number) => self.from_place(number, heading),
         }
     }
 
     fn is_goal(&self, place: u32) -> bool {
-        let (_, cols) = self.source.size();
-        !is_same(self.start, self.target) && is_same(cell_of(place, cols), self.target)
+        self.start != self.target
+            && Place::numbered(place, self.source.size().cols).cell == self.target
     }
 }

@@ -3,40 +3,47 @@
 
 ghost use Rattle.std.specs.Prelude.{◌≡◌, ℕ, ◌^◌, ◌<◌};
 ghost use Rattle.floor.specs.Places.{place_number};
-ghost use Rattle.places.specs.Leaps.{cell_of, heading_of, same_cell};
+ghost use Rattle.places.specs.Leaps.{cell_of, heading_of};
 
 use floor::{Cell, Heading};
 
-// The number of a place: eight to a cell, cells in row order.
-pub fn number_of(cell: Cell, heading: Heading, cols: usize) -> u32
-    requires { place_number cols cell heading < 2 ^ 32 }
-    ensures { result ≡ place_number cols cell heading }
-{
-    (8 * (cell.row * cols + cell.col) + usize::from(heading.number())) as u32
+// A cell, with the heading of arrival there.
+#[derive(Clone, Copy, PartialEq, Eq, Debug)]
+pub struct Place {
+    pub cell: Cell,
+    pub heading: Heading,
 }
 
-// The cell of a place.
-pub fn cell_of(number: u32, cols: usize) -> Cell
-    requires { 0 < cols }
-    ensures { result ≡ cell_of cols number }
-{
-    let cell = number as usize / 8;
-    Cell {
-        row: cell / cols,
-        col: cell % cols,
+impl Place {
+    // Its number on a plan of so many columns: eight to a cell, cells in row order.
+    pub fn number(self, cols: usize) -> u32
+        requires { place_number cols self.cell self.heading < 2 ^ 32 }
+        ensures { result ≡ place_number cols self.cell self.heading }
+    {
+        (8 * (self.cell.row * cols + self.cell.col) + usize::from(self.heading)) as u32
+    }
+
+    // The place of a number.
+    pub fn numbered(number: u32, cols: usize) -> Place
+        requires { 0 < cols }
+        ensures cell { result.cell ≡ cell_of cols number }
+        ensures heading { result.heading ≡ heading_of number }
+    {
+        let index = number as usize / 8;
+        let cell = Cell {
+            row: index / cols,
+            col: index % cols,
+        };
+        Place {
+            cell,
+            heading: heading_of(number),
+        }
     }
 }
 
-// The heading of arrival at a place.
+// The heading of arrival at the place of a number, on a plan of any size.
 pub fn heading_of(number: u32) -> Heading
     ensures { result ≡ heading_of number }
 {
-    Heading::numbered((number % 8) as u8).unwrap_or(Heading::North)
-}
-
-// Whether two cells are one.
-pub fn is_same(a: Cell, b: Cell) -> bool
-    ensures { result ≡ same_cell a b }
-{
-    a.row == b.row && a.col == b.col
+    Heading::try_from((number % 8) as u8).unwrap_or(Heading::North)
 }

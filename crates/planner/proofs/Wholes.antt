@@ -2,8 +2,9 @@
 use Rattle.std.proofs.Common.{◌≡◌, ℕ, ◌+◌, ◌≤◌, ◌⊎◌, List, [], ◌∷◌, length, Some, None, Ok, Err, Option, Result, sym, refl, subst, inl, inr, arith}
 use Rattle.floor.specs.declared.Cell.{Cell}
 use Rattle.floor.specs.declared.Counts.{Counts}
-use Rattle.floor.specs.Plans.{Plan, Sized}
-use Rattle.floor.specs.Routes.{Laying, Fair}
+use Rattle.floor.specs.Plane.{Point, point}
+use Rattle.floor.specs.Plans.{Plan, Sized, opens}
+use Rattle.floor.specs.Routes.{Laying, Laid, Fair}
 use Rattle.rate.specs.declared.Comparison.{Comparison}
 use Rattle.rate.specs.Laws.{AtLeast, Lawful}
 use Rattle.cheapest.specs.Cheapest.{Cheapest, Leg, legs, total, Tour, CheapestLegs}
@@ -17,6 +18,14 @@ use Rattle.planner.proofs.Legs.{legs_length, few_cells}
 
 pub few_legs : (cells : List Cell) (l : ℕ) → first_no (loop_questions cells l) ≡ None → length (legs cells) ≤ 64
 few_legs cells l e = let f = few_cells cells l e in omega (arith, legs_length cells)
+
+-- cheapest legs in one plan are a route for the loop in another, where every route of the one is a route of the other
+pub legs_tour : (order : Counts → Counts → Comparison) (may : Laying) (p q : Plan) → ((x y : Point) (n : Counts) → Laid may (opens p) x y n → Laid may (opens q) x y n) →
+    (ls : List Leg) (ns : List Counts) → CheapestLegs order may p ls ns → Tour may q ls ns
+legs_tour order may p q f [] [] c = tt
+legs_tour order may p q f [] (n ∷ ns) c = absurd c
+legs_tour order may p q f (l ∷ ls) [] c = absurd c
+legs_tour order may p q f (l ∷ ls) (n ∷ ns) c = (f (point l.from) (point l.to) n c.0.route, legs_tour order may p q f ls ns c.1)
 
 module _ (order : Counts → Counts → Comparison) (may : Laying) (p : Plan) (w v : ℕ) where
   -- a length that is given is that of a cheapest route

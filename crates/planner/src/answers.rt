@@ -13,6 +13,7 @@ pub enum LoopRefusal {
 }
 
 impl LoopRefusal {
+    // Kept: the numbers cannot be the variants' own, since one of the variants has a leg and a refusal.
     pub fn number(self) -> u8
         ensures { result ≡ loop_number self }
     {
@@ -24,6 +25,7 @@ impl LoopRefusal {
     }
 
     // The refused leg, or 0 where none is.
+    // Kept: 0 and no Option, since refusals carry the leg as a number, into which an Option would be turned back: no plainer.
     pub fn leg(self) -> usize
         ensures { result ≡ loop_leg self }
     {

@@ -4,13 +4,14 @@ ghost use Rattle.floor.specs.Plans.{legal};
 ghost use Rattle.lengths.specs.declared.answers.Refusal.TheVariants.{NoRoute};
 ghost use Rattle.lengths.specs.Questions.{places as places_of};
 ghost use Rattle.lengths.specs.Answers.{RouteTold, drawn_costs, corner_count};
+ghost use Rattle.lengths.specs.Lists.{Spared};
 ghost use Rattle.lengths.specs.Searched.{Searched};
 
 use crate::marking::Planner;
 use floor::Cell;
 use lengths::{Drawn, Refusal, draw};
 use rate::Rate;
-use search::entry::Entry;
+use search::Work;
 use source::JumpSource;
 
 impl<S: JumpSource, R: Rate> Planner<S, R> {
@@ -19,24 +20,15 @@ impl<S: JumpSource, R: Rate> Planner<S, R> {
         &self,
         start: Cell,
         target: Cell,
-        entries: &mut [Entry],
-        waiting: &mut [u32],
+        work: &mut Work<'_>,
         corners: &mut [Cell],
     ) -> Result<Drawn, Refusal>
-        ensures told { RouteTold (R.Rate.order self.now.rate) legal (S.JumpSource.meaning self.now.source) start target (length entries.old) (length waiting.old) (length corners.old) (take (corner_count result) corners.new) (drawn_costs result) }
+        ensures told { RouteTold (R.Rate.order self.now.rate) legal (S.JumpSource.meaning self.now.source) start target (length work.old.entries.now) (length work.old.waiting.now) (length corners.old) (take (corner_count result) corners.new) (drawn_costs result) }
         ensures past { (corner_count result ≤ length corners.old) × (drop (corner_count result) corners.new ≡ drop (corner_count result) corners.old) }
-        ensures searched { IfOk result (λ n. Searched (R.Rate.order self.now.rate) (S.JumpSource.meaning self.now.source) start target (take (places_of (S.JumpSource.meaning self.now.source)) entries.new) n.measured) }
-        ensures rest { (drop (places_of (S.JumpSource.meaning self.now.source)) entries.new ≡ drop (places_of (S.JumpSource.meaning self.now.source)) entries.old) × (drop (places_of (S.JumpSource.meaning self.now.source)) waiting.new ≡ drop (places_of (S.JumpSource.meaning self.now.source)) waiting.old) }
-        ensures same { IfErr result (λ e. (e ≢ NoRoute) → (entries.new ≡ entries.old) × (waiting.new ≡ waiting.old)) }
+        ensures searched { IfOk result (λ n. Searched (R.Rate.order self.now.rate) (S.JumpSource.meaning self.now.source) start target (take (places_of (S.JumpSource.meaning self.now.source)) work.new.entries.now) n.measured) }
+        ensures rest { Spared (S.JumpSource.meaning self.now.source) work.old work.new }
+        ensures same { IfErr result (λ e. (e ≢ NoRoute) → work.new ≡ work.old) }
     {
-        draw(
-            &self.source,
-            &self.rate,
-            start,
-            target,
-            entries,
-            waiting,
-            corners,
-        )
+        draw(&self.source, &self.rate, start, target, work, corners)
     }
 }

@@ -10,5 +10,6 @@ mod touring;
 pub use answers::LoopRefusal;
 pub use marking::Planner;
 
-// What the first work list of a call holds, so that an office needs to know no crate below this one.
+// The lists that a call works in, and what the first of them holds, so that an office needs to know no crate below this one.
+pub use search::Work;
 pub use search::entry::Entry;

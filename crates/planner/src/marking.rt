@@ -17,12 +17,12 @@ pub struct Planner<S, R> {
 }
 
 // Closes the cells of one row.
-fn close_row<S: JumpSource>(source: &mut S, row: usize, cols: usize)
-    requires { (row < (S.JumpSource.meaning source.old).rows) × (cols ≡ (S.JumpSource.meaning source.old).cols) }
-    ensures plan { S.JumpSource.meaning source.new ≡ shut_row (S.JumpSource.meaning source.old) row cols }
+fn close_row<S: JumpSource>(source: &mut S, row: usize)
+    requires { row < (S.JumpSource.meaning source.old).rows }
+    ensures plan { S.JumpSource.meaning source.new ≡ shut_row (S.JumpSource.meaning source.old) row (S.JumpSource.meaning source.old).cols }
     ensures kept { S.JumpSource.lent source.old source.new }
 {
-    for col in 0..cols {
+    for col in 0..source.size().cols {
         let _ = source.mark(Cell { row, col }, false);
     }
 }
@@ -32,9 +32,8 @@ fn close_all<S: JumpSource>(source: &mut S)
     ensures plan { S.JumpSource.meaning source.new ≡ closed (S.JumpSource.meaning source.old).rows (S.JumpSource.meaning source.old).cols }
     ensures kept { S.JumpSource.lent source.old source.new }
 {
-    let (rows, cols) = source.size();
-    for row in 0..rows {
-        close_row(source, row, cols);
+    for row in 0..source.size().rows {
+        close_row(source, row);
     }
 }
 

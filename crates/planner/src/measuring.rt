@@ -1,16 +1,17 @@
 // The length of a cheapest route between two cells of a planner's floor.
-ghost use Rattle.std.specs.Prelude.{◌≡◌, length, take, drop, IfOk, IfErr, ◌≢◌};
+ghost use Rattle.std.specs.Prelude.{◌≡◌, length, take, IfOk, IfErr, ◌≢◌};
 ghost use Rattle.floor.specs.Plans.{legal};
 ghost use Rattle.lengths.specs.declared.answers.Refusal.TheVariants.{NoRoute};
 ghost use Rattle.lengths.specs.Questions.{places as places_of};
 ghost use Rattle.lengths.specs.Answers.{costs, LengthTold};
+ghost use Rattle.lengths.specs.Lists.{Spared};
 ghost use Rattle.lengths.specs.Searched.{Searched};
 
 use crate::marking::Planner;
 use floor::Cell;
 use lengths::{Measured, Refusal, measure};
 use rate::Rate;
-use search::entry::Entry;
+use search::Work;
 use source::JumpSource;
 
 impl<S: JumpSource, R: Rate> Planner<S, R> {
@@ -19,14 +20,13 @@ impl<S: JumpSource, R: Rate> Planner<S, R> {
         &self,
         start: Cell,
         target: Cell,
-        entries: &mut [Entry],
-        waiting: &mut [u32],
+        work: &mut Work<'_>,
     ) -> Result<Measured, Refusal>
-        ensures told { LengthTold (R.Rate.order self.now.rate) legal (S.JumpSource.meaning self.now.source) start target (length entries.old) (length waiting.old) (costs result) }
-        ensures searched { IfOk result (λ n. Searched (R.Rate.order self.now.rate) (S.JumpSource.meaning self.now.source) start target (take (places_of (S.JumpSource.meaning self.now.source)) entries.new) n) }
-        ensures rest { (drop (places_of (S.JumpSource.meaning self.now.source)) entries.new ≡ drop (places_of (S.JumpSource.meaning self.now.source)) entries.old) × (drop (places_of (S.JumpSource.meaning self.now.source)) waiting.new ≡ drop (places_of (S.JumpSource.meaning self.now.source)) waiting.old) }
-        ensures same { IfErr result (λ e. (e ≢ NoRoute) → (entries.new ≡ entries.old) × (waiting.new ≡ waiting.old)) }
+        ensures told { LengthTold (R.Rate.order self.now.rate) legal (S.JumpSource.meaning self.now.source) start target (length work.old.entries.now) (length work.old.waiting.now) (costs result) }
+        ensures searched { IfOk result (λ n. Searched (R.Rate.order self.now.rate) (S.JumpSource.meaning self.now.source) start target (take (places_of (S.JumpSource.meaning self.now.source)) work.new.entries.now) n) }
+        ensures rest { Spared (S.JumpSource.meaning self.now.source) work.old work.new }
+        ensures same { IfErr result (λ e. (e ≢ NoRoute) → work.new ≡ work.old) }
     {
-        measure(&self.source, &self.rate, start, target, entries, waiting)
+        measure(&self.source, &self.rate, start, target, work)
     }
 }

@@ -7,7 +7,7 @@ use Rattle.planner.specs.Loops.{LoopTold}
 use Rattle.history.specs.declared.calls.Call.{Call}
 use Rattle.history.specs.Calls.{Right, toured}
 use Rattle.history.specs.Records.{asked}
-use Rattle.history.proofs.Loops.{whole_loop}
+use Rattle.planner.proofs.Wholes.{whole_loop}
 use Rattle.history.proofs.steps.answer.Goals as goal
 
 pub returns-in_ok-answer-in-Loop : goal.returns-in_ok-answer-in-Loop
@@ -19,8 +19,8 @@ returns-in_ok-answer-in-Loop g c =
     let a = c.in_ok-answer-in-Loop.answer in
     let ns = vec_items c.in_ok-answer-in-Loop.legs in
     let cells = vec_items c.in-Loop.cells in
-    let w = c.in-Loop.entries in
-    let v = c.in-Loop.waiting in
+    let w = c.in-Loop.room.entries in
+    let v = c.in-Loop.room.waiting in
     let l = c.in-Loop.legs in
     let told : LoopTold order legal p cells w v l ns a = subst (λ (xs : List Cell). LoopTold order legal p xs w v l ns a) c.as_slice.ensures.value c.in_ok-answer-in-Loop.ensures in
     record {

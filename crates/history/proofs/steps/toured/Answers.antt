@@ -15,9 +15,9 @@ returns g c =
     let p = g.S.JumpSource.meaning c.args.planner.now.source in
     let r = c.tour-answer.result in
     let cells = c.args.cells.now in
-    let w : length c.as_mut_slice.result.now ≡ c.args.entries = c.as_mut_slice.ensures.len ∙ c.in_ok-work.ensures.len in
-    let v : length c.as_mut_slice-2.result.now ≡ c.args.waiting = c.as_mut_slice-2.ensures.len ∙ c.in_ok-queue.ensures.len in
-    let l : length c.as_mut_slice-3.result.now ≡ c.args.legs = c.as_mut_slice-3.ensures.len ∙ c.in_ok-counts.ensures.len in
+    let w : length c.work.result.entries.now ≡ c.args.room.entries = c.work.ensures.entries ∙ c.in_ok-lists.ensures.0 in
+    let v : length c.work.result.waiting.now ≡ c.args.room.waiting = c.work.ensures.waiting ∙ c.in_ok-lists.ensures.1 in
+    let l : length c.as_mut_slice.result.now ≡ c.args.legs = c.as_mut_slice.ensures.len ∙ c.in_ok-counts.ensures.len in
     let t = c.tour-answer.ensures.told in
     let n : c.legs_measured.result ≡ measured_legs r (length cells) = search rules in
     let many : length c.tour-answer.new.legs ≡ c.in_ok-counts.counts.len = search rules in
@@ -25,6 +25,6 @@ returns g c =
     let cut : vec_items c.truncate.new.self ≡ take c.legs_measured.result (with_items c.in_ok-counts.counts c.tour-answer.new.legs).items = c.truncate.ensures.items in
     let kept : vec_items c.truncate.new.self ≡ take c.legs_measured.result c.tour-answer.new.legs = cut ∙ ap (take c.legs_measured.result) full in
     let front : take (measured_legs r (length cells)) c.tour-answer.new.legs ≡ t.measured =
-    measured_front order legal p (length c.as_mut_slice.result.now) (length c.as_mut_slice-2.result.now) cells c.as_mut_slice-3.result.now c.tour-answer.new.legs r t in
+    measured_front order legal p (length c.work.result.entries.now) (length c.work.result.waiting.now) cells c.as_mut_slice.result.now c.tour-answer.new.legs r t in
     let e : vec_items c.truncate.new.self ≡ t.measured = kept ∙ ap (λ m. take m c.tour-answer.new.legs) n ∙ front in
     transport (λ i. LoopTold order legal p cells (w i) (v i) (l i) (sym e i) r) t.told

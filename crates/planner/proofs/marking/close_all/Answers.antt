@@ -13,7 +13,7 @@ loop-row-preserved g c =
     let p : Plan = g.S.JumpSource.meaning c.args.source.now in
     let n = c.loop-row.row in
     let e = c.loop-row.invariant.0 in (
-      c.close_row.ensures.plan ∙ ap (λ q. shut_row q n c.size-rows.result.1) e ∙ ap (shut_row (shut_rows p n) n) c.size-rows.ensures.1 ∙ rows_more p (g.S.JumpSource.sized c.args.source.now) n,
+      c.close_row.ensures.plan ∙ ap (λ q. shut_row q n q.cols) e ∙ rows_more p (g.S.JumpSource.sized c.args.source.now) n,
       g.S.JumpSource.goes c.args.source.now c.loop-row.source c.close_row.new.source c.loop-row.invariant.1 c.close_row.ensures.kept,
     )
 
@@ -21,7 +21,7 @@ pub returns : goal.returns
 returns g c =
     let p : Plan = g.S.JumpSource.meaning c.args.source.now in
     let e : g.S.JumpSource.meaning c.loop-row.source ≡ shut_rows p c.loop-row.row = c.loop-row.invariant.0 in
-    let all : c.loop-row.row ≡ p.rows = omega (arith, c.size-rows.ensures.0) in
+    let all : c.loop-row.row ≡ p.rows = omega (arith, c.size-row-end.ensures.0) in
     record {
       plan = e ∙ ap (shut_rows p) all ∙ rows_all p (g.S.JumpSource.sized c.args.source.now);
       kept = c.loop-row.invariant.1;

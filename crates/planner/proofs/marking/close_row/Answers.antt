@@ -14,9 +14,9 @@ loop-col-preserved g c =
     let p : Plan = g.S.JumpSource.meaning c.args.source.now in
     let x : Cell = record { row = c.args.row; col = c.loop-col.col } in
     let e = c.loop-col.invariant.0 in
-    let in_rows = c.requires.0 in
+    let in_rows = c.requires in
     let within : inside (g.S.JumpSource.meaning c.loop-col.source) x ≡ true =
-    ap (λ q. inside q x) e ∙ and_from _ _ (lt-ltb x.row p.rows (omega arith)) (lt-ltb x.col p.cols (omega (arith, c.requires.1))) in (
+    ap (λ q. inside q x) e ∙ and_from _ _ (lt-ltb x.row p.rows (omega arith)) (lt-ltb x.col p.cols (omega (arith, c.size-col-end.ensures.1))) in (
       c.mark.ensures.within within ∙ ap (λ q. marked q x false) e ∙ row_more p c.args.row c.loop-col.col,
       g.S.JumpSource.goes c.args.source.now c.loop-col.source c.mark.new.self c.loop-col.invariant.1 c.mark.ensures.kept,
     )
