@@ -1,8 +1,8 @@
 -- Idea: legs are measured and written one after another, so each fact about a listing has a step from the first legs to one leg more.
-use Rattle.std.proofs.Common.{◌≡◌, ℕ, suc, ◌+◌, ◌*◌, ◌^◌, ◌<◌, ◌≤◌, Bool, true, false, cond, ◌&&◌, leb, List, [], ◌∷◌, ◌++◌, length, get_or, take, drop, Some, None, decimal, Option, sym, refl, ap, ◌∙◌, subst, append_assoc, add-zero, add_assoc, zero-add, arith}
+use Rattle.std.proofs.Common.{◌≡◌, ℕ, suc, ◌+◌, ◌*◌, ◌<◌, ◌≤◌, Bool, true, false, cond, ◌&&◌, leb, List, [], ◌∷◌, ◌++◌, length, get_or, take, drop, Some, None, Option, sym, refl, ap, ◌∙◌, add-zero, add_assoc, zero-add, arith}
 use Rattle.std.proofs.lemmas.Nat.{mul-le}
 use Rattle.std.proofs.lemmas.Fmt.{length-decimal-le}
-use Rattle.std.proofs.lemmas.List.{length-append, length-take-le, append-nil, take-append-drop, drop_more}
+use Rattle.std.proofs.lemmas.List.{length-append, length-take-le, take-append-drop, drop_more}
 use Rattle.std.proofs.lemmas.Bool.{and_parts, leb-true}
 use Rattle.std.proofs.lemmas.Bool.Decides.{nat_tests}
 use Rattle.floor.specs.declared.Counts.{Counts}
@@ -12,7 +12,7 @@ use Rattle.listing.specs.declared.millimetres.Refusal.{Refusal}
 use Rattle.listing.specs.declared.lines.Amount.{Amount}
 use Rattle.listing.specs.declared.lines.ListingRefusal.{ListingRefusal}
 use Rattle.listing.specs.Millimetres.{refusal, Figure}
-use Rattle.listing.specs.Lines.{of_leg, or_later, first_refused, Measures, no_amount, plus_amount, in_all, values, leg_lines, names_line, listing_text, listing_refusal}
+use Rattle.listing.specs.Lines.{of_leg, or_later, first_refused, Measures, plus_amount, in_all, values, leg_lines, names_line, listing_text, listing_refusal}
 use Rattle.listing.proofs.Figures.{enough}
 
 -- one leg more is measured
@@ -39,15 +39,6 @@ in_all_more (b ∷ items) a =
     ap (plus_amount b) (in_all_more items a)
     ∙ same_amount _ _ _ _ _ _ (sym (add_assoc b.counts.straight rest.counts.straight a.counts.straight))
     (sym (add_assoc b.counts.diagonal rest.counts.diagonal a.counts.diagonal)) (sym (add_assoc b.millimetres rest.millimetres a.millimetres))
-
--- one leg more is written
-pub leg_lines_more : (k : ℕ) (items : List Amount) (a : Amount) → leg_lines k (items ++ a ∷ []) ≡ leg_lines k items ++ (decimal (k + length items) ++ values a)
-unfolding leg_lines
-leg_lines_more k [] a = append-nil (decimal k ++ values a) ∙ ap (λ (n : ℕ). decimal n ++ values a) (sym (add-zero k))
-leg_lines_more k (b ∷ items) a =
-    let next : k + 1 + length items ≡ k + suc (length items) = omega arith in
-    ap (λ (t : List ℕ). (decimal k ++ values b) ++ t) (leg_lines_more (k + 1) items a ∙ ap (λ (n : ℕ). leg_lines (k + 1) items ++ (decimal n ++ values a)) next)
-    ∙ sym (append_assoc (decimal k ++ values b) (leg_lines (k + 1) items) _)
 
 -- a question that was passed
 passed : {X : Type 0} (b : Bool) (o : Option X) (e : X) → cond b o (Some e) ≡ None → (b ≡ true) × (o ≡ None)

@@ -1,9 +1,9 @@
 -- The listing of a loop: a line of names, a line for each leg, and a line for all of them.
-use Rattle.std.specs.Prelude.{◌≡◌, ℕ, ◌+◌, cond, ◌&&◌, List, [], ◌∷◌, ◌++◌, length, Some, None, Ok, Err, codes, decimal, Option, Result, nat_le}
+use Rattle.std.specs.Prelude.{◌≡◌, ℕ, ◌+◌, ◌^◌, ◌<◌, cond, ◌&&◌, List, [], ◌∷◌, ◌++◌, length, Some, None, Ok, Err, codes, decimal, Option, Result, nat_le}
 use Rattle.floor.specs.declared.Counts.{Counts}
 use Rattle.floor.specs.Tally.{none, plus}
 use Rattle.writing.specs.Fronts.{over}
-use Rattle.writing.specs.Values.{three_values}
+use Rattle.writing.specs.Values.{last_values}
 use Rattle.listing.specs.declared.millimetres.Refusal.{Refusal}
 use Rattle.listing.specs.declared.millimetres.Refusal.TheVariants as one
 use Rattle.listing.specs.declared.lines.Amount.{Amount}
@@ -55,6 +55,12 @@ Measures s (x ∷ xs) (a ∷ items) = ((a.counts ≡ x) × Figure s x a.millimet
 abbrev pub no_amount : Amount
 no_amount = record { counts = none; millimetres = 0 }
 
+-- two amounts that are small enough to be added
+pub record AddsUp (a b : Amount) : Type 0 where
+  pub straights : a.counts.straight + b.counts.straight < 2 ^ 32
+  pub diagonals : a.counts.diagonal + b.counts.diagonal < 2 ^ 32
+  pub millimetres : a.millimetres + b.millimetres < 2 ^ 64
+
 -- one amount and another
 abbrev pub plus_amount : Amount → Amount → Amount
 plus_amount a b = record { counts = plus a.counts b.counts; millimetres = a.millimetres + b.millimetres }
@@ -66,7 +72,7 @@ in_all (a ∷ items) = plus_amount a (in_all items)
 
 -- the values of a line after its name
 abbrev pub values : Amount → List ℕ
-values a = three_values a.counts.straight a.counts.diagonal a.millimetres
+values a = last_values (a.counts.straight ∷ a.counts.diagonal ∷ a.millimetres ∷ [])
 
 -- the lines of the legs from number k on
 unfoldable pub leg_lines : ℕ → List Amount → List ℕ

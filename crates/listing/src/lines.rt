@@ -1,13 +1,14 @@
 // The listing of a loop, leg by leg, at the front of a lent buffer.
 ghost use Rattle.std.specs.Prelude.{◌≡◌, ◌+◌, ◌^◌, ◌<◌, ◌≤◌, ◌++◌, length, take, Some, None, decimal, MatchResult};
-ghost use Rattle.writing.specs.Fronts.{Wrote};
+ghost use Rattle.writing.specs.Fronts.{Fits, Added};
 ghost use Rattle.listing.specs.declared.millimetres.Refusal.{Refusal as Refused};
 ghost use Rattle.listing.specs.Millimetres.{refusal, Figure};
-ghost use Rattle.listing.specs.Lines.{listing_number, listing_leg, of_leg, first_refused, Measures, plus_amount, in_all, values, leg_lines, listing_text, Listed};
+ghost use Rattle.listing.specs.Lines.{listing_number, listing_leg, of_leg, first_refused, Measures, AddsUp, plus_amount, in_all, values, leg_lines, listing_text, Listed};
 
 use crate::millimetres::{Refusal, millimetres};
 use floor::Counts;
-use writing::{put_number, put_text, put_three_values};
+use std::ops::Add;
+use writing::Page;
 
 // A loop has at least this many legs, and at most so many.
 const FEWEST_LEGS: usize = 2;
@@ -27,18 +28,20 @@ pub enum ListingRefusal {
 }
 
 impl ListingRefusal {
+    // Kept: the numbers cannot be the variants' own, since one of the variants has a leg.
     pub fn number(self) -> u8
         ensures { result ≡ listing_number self }
     {
         match self {
             ListingRefusal::LegCount => 8,
             ListingRefusal::ShortBuffer => 14,
-            ListingRefusal::Side => 12,
-            ListingRefusal::Count { .. } => 13,
+            ListingRefusal::Side => Refusal::Side.number(),
+            ListingRefusal::Count { .. } => Refusal::Count.number(),
         }
     }
 
     // The refused leg, or 0 where none is.
+    // Kept: 0 and no Option, since it is printed as a number, into which an Option would be turned back: no plainer.
     pub fn leg(self) -> usize
         ensures { result ≡ listing_leg self }
     {
@@ -46,6 +49,16 @@ impl ListingRefusal {
             ListingRefusal::LegCount | ListingRefusal::ShortBuffer | ListingRefusal::Side => 0,
             ListingRefusal::Count { leg } => leg,
         }
+    }
+}
+
+// What is refused of a leg, if its figure is: a wrong side is that of all legs.
+fn of_leg(leg: usize, refusal: Refusal) -> ListingRefusal
+    ensures { result ≡ of_leg leg refusal }
+{
+    match refusal {
+        Refusal::Side => ListingRefusal::Side,
+        Refusal::Count => ListingRefusal::Count { leg },
     }
 }
 
@@ -57,89 +70,75 @@ pub struct Amount {
 }
 
 const NOTHING: Amount = Amount {
-    counts: Counts {
-        straight: 0,
-        diagonal: 0,
-    },
+    counts: Counts::NONE,
     millimetres: 0,
 };
 
-// Writes the values of a line after its name.
-fn put_values(page: &mut [u8], at: usize, amount: Amount) -> usize
-    requires { at + length (values amount) ≤ length page.old }
-    ensures { Wrote page.old at (values amount) page.new result }
-{
-    let Counts { straight, diagonal } = amount.counts;
-    put_three_values(
-        page,
-        at,
-        straight as u64,
-        diagonal as u64,
-        amount.millimetres,
-    )
-}
+// One amount and another.
+impl Add for Amount {
+    type Output = Amount;
 
-// Writes the line of a leg.
-fn put_leg(page: &mut [u8], at: usize, leg: usize, amount: Amount) -> usize
-    requires { at + length (decimal leg ++ values amount) ≤ length page.old }
-    ensures { Wrote page.old at (decimal leg ++ values amount) page.new result }
-{
-    let at = put_number(page, at, leg as u64);
-    put_values(page, at, amount)
+    ghost can_add = { AddsUp };
+
+    ghost add_gives = { λ first second sum. sum ≡ plus_amount first second };
+
+    fn add(self, other: Amount) -> Amount {
+        Amount {
+            counts: self.counts + other.counts,
+            millimetres: self.millimetres + other.millimetres,
+        }
+    }
 }
 
 // A leg's counts with their millimetres, or why they have none.
 fn amount_of(side: u32, leg: usize, counts: Counts) -> Result<Amount, ListingRefusal>
     ensures { MatchResult result (λ a. (refusal side counts ≡ None) × (a.counts ≡ counts) × Figure side counts a.millimetres) (λ e. (x : Refused) × (refusal side counts ≡ Some x) × (e ≡ of_leg leg x)) }
 {
-    match millimetres(side, counts) {
-        Ok(millimetres) => Ok(Amount {
-            counts,
-            millimetres,
-        }),
-        Err(Refusal::Side) => Err(ListingRefusal::Side),
-        Err(Refusal::Count) => Err(ListingRefusal::Count { leg }),
-    }
+    let millimetres = millimetres(side, counts).map_err(|refusal| of_leg(leg, refusal))?;
+    Ok(Amount {
+        counts,
+        millimetres,
+    })
 }
 
-// One amount and another.
-fn add(first: Amount, second: Amount) -> Amount
-    requires straights { first.counts.straight + second.counts.straight < 2 ^ 32 }
-    requires diagonals { first.counts.diagonal + second.counts.diagonal < 2 ^ 32 }
-    requires millimetres { first.millimetres + second.millimetres < 2 ^ 64 }
-    ensures { result ≡ plus_amount first second }
+// Writes the values of a line after its name.
+fn put_values(page: &mut Page, amount: Amount)
+    requires { Fits page.old (values amount) }
+    ensures { Added page.old (values amount) page.new }
 {
-    Amount {
-        counts: Counts {
-            straight: first.counts.straight + second.counts.straight,
-            diagonal: first.counts.diagonal + second.counts.diagonal,
-        },
-        millimetres: first.millimetres + second.millimetres,
-    }
+    let Counts { straight, diagonal } = amount.counts;
+    page.put_last_values(&[u64::from(straight), u64::from(diagonal), amount.millimetres]);
+}
+
+// Writes the line of a leg.
+fn put_leg(page: &mut Page, leg: usize, amount: Amount)
+    requires { Fits page.old (decimal leg ++ values amount) }
+    ensures { Added page.old (decimal leg ++ values amount) page.new }
+{
+    page.put_number(leg as u64);
+    put_values(page, amount);
 }
 
 // Writes the lines of the legs, from the first.
-fn put_legs(page: &mut [u8], at: usize, amounts: &[Amount]) -> usize
-    requires { at + length (leg_lines 1 amounts.now) ≤ length page.old }
-    ensures { Wrote page.old at (leg_lines 1 amounts.now) page.new result }
+fn put_legs(page: &mut Page, amounts: &[Amount])
+    requires { Fits page.old (leg_lines 1 amounts.now) }
+    ensures { Added page.old (leg_lines 1 amounts.now) page.new }
 {
-    let mut next = at;
     for (i, amount) in amounts.iter().enumerate() {
-        next = put_leg(page, next, i + 1, *amount);
+        put_leg(page, i + 1, *amount);
     }
-    next
 }
 
-// Writes the whole listing to the front of a page, and answers how long it is.
-fn put_listing(page: &mut [u8], amounts: &[Amount], total: Amount) -> usize
-    requires room { length (listing_text amounts.now) ≤ length page.old }
+// Writes the whole listing.
+fn put_listing(page: &mut Page, amounts: &[Amount], total: Amount)
+    requires room { Fits page.old (listing_text amounts.now) }
     requires total { total ≡ in_all amounts.now }
-    ensures { Wrote page.old 0 (listing_text amounts.now) page.new result }
+    ensures { Added page.old (listing_text amounts.now) page.new }
 {
-    let at = put_text(page, 0, b"leg straight diagonal mm\n");
-    let at = put_legs(page, at, amounts);
-    let at = put_text(page, at, b"all");
-    put_values(page, at, total)
+    page.put(b"leg straight diagonal mm\n");
+    put_legs(page, amounts);
+    page.put(b"all");
+    put_values(page, total);
 }
 
 // The amount of each leg goes to the front of a list, and that of all is answered.
@@ -152,16 +151,17 @@ fn measure(side: u32, legs: &[Counts], amounts: &mut [Amount]) -> Result<Amount,
     for (i, counts) in legs.iter().enumerate() {
         let amount = amount_of(side, i + 1, *counts)?;
         amounts[i] = amount;
-        total = add(total, amount);
+        total = total + amount;
     }
     Ok(total)
 }
 
 // Writes the listing of a loop's legs, over cells of this side, to the front of a buffer, and answers how long it is.
+// Kept: it is a rule of the project that the buffer is lent.
 pub fn list(side: u32, legs: &[Counts], buffer: &mut [u8]) -> Result<usize, ListingRefusal>
     ensures { Listed side legs.now buffer.old buffer.new result }
 {
-    if legs.len() < FEWEST_LEGS || legs.len() > MOST_LEGS {
+    if !(FEWEST_LEGS..=MOST_LEGS).contains(&legs.len()) {
         return Err(ListingRefusal::LegCount);
     }
     if buffer.len() < ROOM {
@@ -169,7 +169,9 @@ pub fn list(side: u32, legs: &[Counts], buffer: &mut [u8]) -> Result<usize, List
     }
     let mut amounts = [NOTHING; MOST_LEGS];
     let total = measure(side, legs, &mut amounts)?;
-    Ok(put_listing(buffer, &amounts[0..legs.len()], total))
+    let mut page = Page::new(buffer);
+    put_listing(&mut page, &amounts[0..legs.len()], total);
+    Ok(page.len())
 }
 
 #[cfg(test)]

@@ -13,9 +13,9 @@ const LONGEST_SIDE: u32 = 2_000;
 #[derive(Clone, Copy, PartialEq, Eq, Debug)]
 pub enum Refusal {
     // The side is not 1 to 2,000.
-    Side,
+    Side = 12,
     // A count is above the limit.
-    Count,
+    Count = 13,
 }
 
 impl Refusal {
@@ -23,10 +23,7 @@ impl Refusal {
     pub fn number(self) -> u8
         ensures { result ≡ refusal_number self }
     {
-        match self {
-            Refusal::Side => 12,
-            Refusal::Count => 13,
-        }
+        self as u8
     }
 }
 
@@ -36,24 +33,15 @@ fn root_up(square: u64) -> u64
     ensures least { (n : ℕ) → square ≤ squared n → result ≤ n }
     ensures bound { result ≤ 4294967296 }
 {
-    let mut low = 0;
-    let mut high = 1 << 32;
-    while low < high {
-        let middle = low + (high - low) / 2;
-        if middle * middle < square {
-            low = middle + 1;
-        } else {
-            high = middle;
-        }
-    }
-    low
+    let root = square.isqrt();
+    if root * root < square { root + 1 } else { root }
 }
 
 // The least whole number of millimetres that covers the route, for cells of this side.
 pub fn millimetres(side: u32, counts: Counts) -> Result<u64, Refusal>
     ensures { Measured side counts result }
 {
-    if side < 1 || side > LONGEST_SIDE {
+    if !(1..=LONGEST_SIDE).contains(&side) {
         return Err(Refusal::Side);
     }
     if counts.straight > LIMIT || counts.diagonal > LIMIT {

@@ -1,11 +1,10 @@
 -- Idea: a loop that is answered has measured each of its legs, and a cheapest leg is short enough to have a figure.
-use Rattle.std.proofs.Common.{◌≡◌, ℕ, ◌+◌, ◌<◌, ◌≤◌, true, cond, ◌&&◌, leb, List, [], ◌∷◌, ◌++◌, length, take, drop, IfOk, Some, None, Ok, Err, Option, Result, sym, refl, ap, ◌∙◌, subst, inl, inr, arith}
+use Rattle.std.proofs.Common.{◌≡◌, ℕ, ◌+◌, ◌≤◌, ◌&&◌, leb, List, [], ◌∷◌, length, IfOk, None, Ok, Err, Option, Result, refl, ap, ◌∙◌, subst, inl, inr, arith}
 use Rattle.std.proofs.lemmas.Bool.{and_parts, leb-true}
 use Rattle.std.proofs.lemmas.Bool.Decides.{nat_tests}
 use Rattle.floor.specs.declared.Cell.{Cell}
 use Rattle.floor.specs.declared.Counts.{Counts}
 use Rattle.floor.specs.Plans.{Plan, Sized, legal}
-use Rattle.floor.specs.Routes.{Laying}
 use Rattle.floor.proofs.Legal.{legal_fair}
 use Rattle.rate.specs.declared.Comparison.{Comparison}
 use Rattle.rate.specs.Laws.{AtLeast}
@@ -13,11 +12,11 @@ use Rattle.rate.specs.Exact.{exact}
 use Rattle.rate.proofs.Lengths.{exact_lawful}
 use Rattle.cheapest.specs.Cheapest.{Leg, legs, total, Tour, CheapestLegs}
 use Rattle.cheapest.proofs.Rivals.{rivals}
-use Rattle.lengths.specs.Questions.{ask, first_no}
+use Rattle.lengths.specs.Questions.{ask}
 use Rattle.lengths.proofs.Asked.{yes_first}
 use Rattle.planner.specs.declared.answers.LoopRefusal.{LoopRefusal}
 use Rattle.planner.specs.declared.answers.LoopRefusal.TheVariants.{CellCount, ShortLegs}
-use Rattle.planner.specs.Loops.{loop_questions, LoopTold}
+use Rattle.planner.specs.Loops.{LoopTold}
 use Rattle.planner.specs.Touring.{Toured}
 use Rattle.planner.proofs.Legs.{legs_length, few_cells}
 use Rattle.planner.proofs.Wholes.{all_legs, loop_by, whole_loop}

@@ -1,19 +1,18 @@
 -- Idea: opening the cells that the entries name, one after another, leaves open just those that some entry names.
-use Rattle.std.proofs.Common.{◌≡◌, ℕ, ◌+◌, ◌<◌, ◌≤◌, Bool, true, false, cond, ◌&&◌, ◌||◌, eqb, ltb, List, [], ◌∷◌, ◌++◌, map, length, get_or, take, fold, sym, refl, ap, ◌∙◌, subst, arith}
+use Rattle.std.proofs.Common.{◌≡◌, ℕ, ◌+◌, ◌<◌, ◌≤◌, Bool, true, false, cond, ◌&&◌, ◌||◌, eqb, ltb, List, [], ◌∷◌, map, length, get_or, take, sym, refl, ap, ◌∙◌, arith}
 use Rattle.std.specs.List.{AllByRecursion}
 use Rattle.std.proofs.lemmas.List.{take-map, get_or-map, length-map}
 use Rattle.std.proofs.ByRecursion.{All-from_get_or}
 use Rattle.std.proofs.lemmas.List.Sums.{fold_more}
 use Rattle.std.proofs.lemmas.Bool.{cond-true, and_from, lt-ltb}
 use Rattle.std.proofs.lemmas.Bool.Decides.{nat_tests}
-use Rattle.floor.specs.declared.Cell.{Cell}
 use Rattle.floor.specs.Plans.{Plan, Sized, inside, marked, closed}
 use Rattle.source.specs.Drawing.{open_one, opened}
 use Rattle.sheet.specs.declared.Entry.{Entry}
 use Rattle.sheet.specs.declared.Mark.TheVariants.{Open}
 use Rattle.sheet.specs.Format.{entry_at}
 use Rattle.sheet.specs.Accepted.{Accepted}
-use Rattle.sheet.specs.Meaning.{same_cell, some, named}
+use Rattle.sheet.specs.Meaning.{same_cell, named}
 use Rattle.quoting.specs.Floors.{cells_of, floor_of}
 
 -- one entry more

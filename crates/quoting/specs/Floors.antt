@@ -1,5 +1,5 @@
 -- The floor of a sheet, and the loop that is asked of it.
-use Rattle.std.specs.Prelude.{◌≡◌, ℕ, List, map, Result}
+use Rattle.std.specs.Prelude.{List, map, Result}
 use Rattle.floor.specs.declared.Cell.{Cell}
 use Rattle.floor.specs.declared.Counts.{Counts}
 use Rattle.floor.specs.Plans.{Plan, legal}

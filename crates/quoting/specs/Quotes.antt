@@ -66,3 +66,8 @@ QuotedReading before after q r = QuotedAs before after q r.meant r.fault
 -- any bytes at all are read, and what they are read as is printed
 abbrev pub Quoted : List ℕ → List ℕ → List ℕ → Outcome → Type 0
 Quoted sheet before after q = QuotedReading before after q (reading_of sheet 256)
+
+-- What is promised of the page and the outcome, once a refusal, if there is one, is printed: until then the page is as it was.
+abbrev pub OncePrinted : (List ℕ → Outcome → Type 0) → List ℕ → List ℕ → Result ℕ Refusal → Type 0
+OncePrinted P before after (Ok n) = P after (record { length = n; refusal = None })
+OncePrinted P before after (Err e) = (after ≡ before) × ((printed : List ℕ) (q : Outcome) → Refused before printed q e → P printed q)

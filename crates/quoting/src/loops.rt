@@ -9,7 +9,7 @@ ghost use Rattle.quoting.specs.Floors.{cells_of, floor_of};
 
 use floor::{Cell, Counts};
 use packed::PackedSource;
-use planner::{Entry as Place, LoopRefusal, Planner};
+use planner::{Entry as Place, LoopRefusal, Planner, Work};
 use rate::Rate;
 use rates::exact::ExactRate;
 use sheet::Entry;
@@ -48,7 +48,11 @@ fn tour_on<S: JumpSource, R: Rate>(
     open_cells(&mut planner, entries);
     let mut places = [Place::BLANK; PLACES];
     let mut waiting = [0u32; PLACES];
-    planner.tour(stops, &mut places, &mut waiting, legs)
+    let mut work = Work {
+        entries: &mut places,
+        waiting: &mut waiting,
+    };
+    planner.tour(stops, &mut work, legs)
 }
 
 // The loop through these stops on the floor of an accepted sheet, under the exact rate.

@@ -1,8 +1,7 @@
 // A whole quote: any bytes in, what is printed for them out.
-ghost use Rattle.std.specs.Prelude.{◌≡◌, ◌≤◌, length, None};
-ghost use Rattle.listing.specs.Lines.{listing_refusal};
+ghost use Rattle.std.specs.Prelude.{◌≤◌, length, IfOk};
 ghost use Rattle.sheet.specs.Accepted.{Accepted};
-ghost use Rattle.quoting.specs.Quotes.{Refused, LegsListed, QuotedLoop, Quoted};
+ghost use Rattle.quoting.specs.Quotes.{QuotedLoop, Quoted, OncePrinted};
 
 use crate::faults::{Refusal, put_refusal};
 use crate::loops::tour;
@@ -32,52 +31,28 @@ const UNUSED: Entry = Entry {
 
 const NOWHERE: Cell = Cell { row: 0, col: 0 };
 
-const NO_STEPS: Counts = Counts {
-    straight: 0,
-    diagonal: 0,
-};
-
-// Prints a refusal.
-fn refuse(page: &mut [u8; PAGE], refusal: Refusal) -> Outcome
-    ensures quoted { Refused page.old page.new result refusal }
-    ensures fits { result.length ≤ 4096 }
-{
-    let length = put_refusal(page, refusal);
-    Outcome {
-        length,
-        refusal: Some(refusal),
-    }
-}
-
-// Prints the listing of a loop's legs, which all have a figure.
-fn list_legs(page: &mut [u8; PAGE], legs: &[Counts]) -> Outcome
-    requires { listing_refusal 1000 legs.now 4096 ≡ None }
-    ensures quoted { LegsListed page.old page.new result legs.now }
-    ensures fits { result.length ≤ 4096 }
-{
-    match list(SIDE, legs, page) {
-        Ok(length) => Outcome {
-            length,
-            refusal: None,
-        },
-        Err(refusal) => refuse(page, Refusal::Listing(refusal)),
-    }
-}
-
-// Prints the loop through the stops of an accepted sheet.
-fn quote_loop(page: &mut [u8; PAGE], entries: &[Entry]) -> Outcome
+// Prints the listing of the loop through the stops of an accepted sheet, or says why there is none.
+fn list_loop(page: &mut [u8; PAGE], entries: &[Entry]) -> Result<usize, Refusal>
     requires accepted { Accepted entries.now }
     requires few { length entries.now ≤ 256 }
-    ensures quoted { QuotedLoop page.old page.new result entries.now }
-    ensures fits { result.length ≤ 4096 }
+    ensures quoted { OncePrinted (λ after q. QuotedLoop page.old after q entries.now) page.old page.new result }
+    ensures fits { IfOk result (λ n. n ≤ 4096) }
 {
     let mut stops = [NOWHERE; 256];
     let count = sheet::put_run(entries, &mut stops);
-    let mut legs = [NO_STEPS; 64];
-    match tour(entries, &stops[0..count], &mut legs) {
-        Ok(_) => list_legs(page, &legs[0..count]),
-        Err(refusal) => refuse(page, Refusal::Planner(refusal)),
-    }
+    let mut legs = [Counts::NONE; 64];
+    tour(entries, &stops[0..count], &mut legs).map_err(Refusal::Planner)?;
+    list(SIDE, &legs[0..count], page).map_err(Refusal::Listing)
+}
+
+// Prints the listing of the loop through the stops of a sheet, or says why there is none.
+fn list_sheet(page: &mut [u8; PAGE], sheet: &[u8]) -> Result<usize, Refusal>
+    ensures quoted { OncePrinted (λ after q. Quoted sheet.now page.old after q) page.old page.new result }
+    ensures fits { IfOk result (λ n. n ≤ 4096) }
+{
+    let mut entries = [UNUSED; 256];
+    let count = sheet::read(sheet, &mut entries).map_err(Refusal::Sheet)?;
+    list_loop(page, &entries[0..count])
 }
 
 // Quotes a sheet: what is to be printed stands at the front of the page.
@@ -85,9 +60,14 @@ pub fn quote(sheet: &[u8], page: &mut [u8; PAGE]) -> Outcome
     ensures quoted { Quoted sheet.now page.old page.new result }
     ensures fits { result.length ≤ 4096 }
 {
-    let mut entries = [UNUSED; 256];
-    match sheet::read(sheet, &mut entries) {
-        Ok(count) => quote_loop(page, &entries[0..count]),
-        Err(refusal) => refuse(page, Refusal::Sheet(refusal)),
+    match list_sheet(page, sheet) {
+        Ok(length) => Outcome {
+            length,
+            refusal: None,
+        },
+        Err(refusal) => Outcome {
+            length: put_refusal(page, refusal),
+            refusal: Some(refusal),
+        },
     }
 }

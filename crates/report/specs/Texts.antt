@@ -5,7 +5,7 @@ use Rattle.floor.specs.declared.Cell.{Cell}
 use Rattle.sheet.specs.declared.refusals.Figures.{Figures}
 use Rattle.report.specs.declared.Fault.{Fault}
 use Rattle.report.specs.declared.Origin.{Origin}
-use Rattle.report.specs.declared.Origin.TheVariants.{Sheet, Planner}
+use Rattle.report.specs.declared.Origin.TheVariants.{Sheet, Planner, Listing}
 
 -- a line and its line feed
 abbrev pub ended : List ℕ → List ℕ
@@ -15,14 +15,18 @@ ended text = text ++ 10 ∷ []
 abbrev pub origin_name : Origin → List ℕ
 origin_name Sheet = codes "sheet"
 origin_name Planner = codes "planner"
+origin_name Listing = codes "listing"
 
 -- a sheet's refusal has no leg
 abbrev pub sheet_fault : Figures → Fault
 sheet_fault f = record { number = f.number; from = Sheet; line = f.line; field = f.field; leg = 0 }
 
--- a planner's refusal lies in no sheet, and so has no line and no field
+-- a refusal that lies in no sheet has no line and no field
+abbrev pub call_fault : Origin → ℕ → ℕ → Fault
+call_fault from number leg = record { number = number; from = from; line = 0; field = 0; leg = leg }
+
 abbrev pub planner_fault : ℕ → ℕ → Fault
-planner_fault number leg = record { number = number; from = Planner; line = 0; field = 0; leg = leg }
+planner_fault = call_fault Planner
 
 -- a refusal: the names, and one line of values
 abbrev pub fault_text : Fault → List ℕ

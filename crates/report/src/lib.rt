@@ -1,10 +1,10 @@
 // The texts that `quote` prints: a listing of what a sheet holds, or a refusal.
 #![tactic(auto)]
 
-ghost use Rattle.std.specs.Prelude.{◌≡◌, ◌++◌, IfOk, Some, string_bytes, codes, OnOk};
+ghost use Rattle.std.specs.Prelude.{◌≡◌, IfOk, Some, string_bytes, codes};
 ghost use Rattle.std.specs.List.{flat_map};
 ghost use Rattle.sheet.specs.Refusals.{figures_of};
-ghost use Rattle.report.specs.Texts.{origin_name, sheet_fault, planner_fault, fault_text, stop_text, stop_texts, listing_text};
+ghost use Rattle.report.specs.Texts.{origin_name, sheet_fault, call_fault, planner_fault, fault_text, stop_text, stop_texts, listing_text};
 
 use floor::Cell;
 use sheet::Refusal;
@@ -17,9 +17,11 @@ use std::fmt::Display;
 pub enum Origin {
     Sheet,
     Planner,
+    Listing,
 }
 
-// A refusal as it is printed, with 0 where a value does not apply.
+// A refusal as it is printed.
+// Kept: it is a rule of the printed form that 0 stands where a value does not apply.
 #[derive(Clone, Copy, PartialEq, Eq, Debug)]
 pub struct Fault {
     pub number: usize,
@@ -29,14 +31,24 @@ pub struct Fault {
     pub leg: usize,
 }
 
+impl Origin {
+    // The word for it.
+    pub fn name(self) -> &'static str
+        ensures { result.now ≡ origin_name self }
+    {
+        match self {
+            Origin::Sheet => "sheet",
+            Origin::Planner => "planner",
+            Origin::Listing => "listing",
+        }
+    }
+}
+
 impl Display for Origin {
     ghost output = { λ o. Some (origin_name o) };
 
     fn fmt<W: fmt::Write>(&self, f: &mut fmt::Formatter<W>) -> fmt::Result {
-        match *self {
-            Origin::Sheet => write!(f, "sheet"),
-            Origin::Planner => write!(f, "planner"),
-        }
+        f.write_str(self.name())
     }
 }
 
@@ -59,70 +71,102 @@ impl Display for Fault {
 }
 
 // A sheet's refusal as it is printed.
-pub fn sheet_fault(refusal: &Refusal) -> Fault
-    ensures { result ≡ sheet_fault (figures_of refusal.now) }
-{
-    let figures = refusal.in_figures();
-    Fault {
-        number: figures.number,
-        from: Origin::Sheet,
-        line: figures.line,
-        field: figures.field,
-        leg: 0,
+impl From<&Refusal> for Fault {
+    ghost from_gives = { λ refusal fault. fault ≡ sheet_fault (figures_of refusal.now) };
+
+    fn from(refusal: &Refusal) -> Fault {
+        let figures = refusal.in_figures();
+        Fault {
+            number: figures.number,
+            from: Origin::Sheet,
+            line: figures.line,
+            field: figures.field,
+            leg: 0,
+        }
     }
 }
 
-// A planner's refusal as it is printed, with the leg of a loop from 1, or 0 where there is none.
-pub fn planner_fault(number: usize, leg: usize) -> Fault
-    ensures { result ≡ planner_fault number leg }
+// A refusal that lies in no sheet, as it is printed, with the leg of a loop from 1, or 0 where there is none.
+// Kept: a From would need a refusal to convert from, and here are who refuses and two numbers.
+pub fn call_fault(from: Origin, number: usize, leg: usize) -> Fault
+    ensures { result ≡ call_fault from number leg }
 {
     Fault {
         number,
-        from: Origin::Planner,
+        from,
         line: 0,
         field: 0,
         leg,
     }
 }
 
-// Adds a stop's line to a listing.
-fn add_stop(text: &mut String, heap: Global, kind: &str, cell: Cell) -> Result<(), AllocError>
-    ensures { OnOk result (string_bytes text.new ≡ string_bytes text.old ++ stop_text kind.now cell) }
+// A planner's refusal as it is printed.
+pub fn planner_fault(number: usize, leg: usize) -> Fault
+    ensures { result ≡ planner_fault number leg }
 {
-    let row = cell.row;
-    let col = cell.col;
-    let line = format!(in heap; "{kind} {row} {col}\n")?;
-    text.push_str(line.as_str())
+    call_fault(Origin::Planner, number, leg)
 }
 
-// Adds a line for each device.
-fn add_devices(text: &mut String, heap: Global, devices: &[Cell]) -> Result<(), AllocError>
-    ensures { OnOk result (string_bytes text.new ≡ string_bytes text.old ++ flat_map (stop_text (codes "device")) devices.now) }
-{
-    for device in devices {
-        add_stop(text, heap, "device", *device)?;
+// A stop's line: its kind, its row and its column.
+#[derive(Clone, Copy)]
+struct Stop {
+    kind: &'static str,
+    cell: Cell,
+}
+
+impl Display for Stop {
+    ghost output = { λ s. Some (stop_text s.kind.now s.cell) };
+
+    fn fmt<W: fmt::Write>(&self, f: &mut fmt::Formatter<W>) -> fmt::Result {
+        let kind = self.kind;
+        let Cell { row, col } = self.cell;
+        write!(f, "{kind} {row} {col}\n")
     }
-    Ok(())
 }
 
-// Adds a line for each stop of a run, the panel first.
-fn add_stops(text: &mut String, heap: Global, stops: &[Cell]) -> Result<(), AllocError>
-    ensures { OnOk result (string_bytes text.new ≡ string_bytes text.old ++ stop_texts stops.now) }
-{
-    let [panel, devices @ ..] = stops else {
-        return Ok(());
-    };
-    add_stop(text, heap, "panel", *panel)?;
-    add_devices(text, heap, devices)
+// A line for each device.
+#[derive(Clone, Copy)]
+struct Devices<'a>(&'a [Cell]);
+
+impl Display for Devices<'_> {
+    ghost output = { λ d. Some (flat_map (stop_text (codes "device")) d.0.now) };
+
+    fn fmt<W: fmt::Write>(&self, f: &mut fmt::Formatter<W>) -> fmt::Result {
+        for device in self.0 {
+            let stop = Stop {
+                kind: "device",
+                cell: *device,
+            };
+            write!(f, "{stop}")?;
+        }
+        Ok(())
+    }
+}
+
+// A line for each stop of a run, the panel first.
+#[derive(Clone, Copy)]
+struct Stops<'a>(&'a [Cell]);
+
+impl Display for Stops<'_> {
+    ghost output = { λ s. Some (stop_texts s.0.now) };
+
+    fn fmt<W: fmt::Write>(&self, f: &mut fmt::Formatter<W>) -> fmt::Result {
+        let [panel, devices @ ..] = self.0 else {
+            return Ok(());
+        };
+        let panel = Stop {
+            kind: "panel",
+            cell: *panel,
+        };
+        let devices = Devices(devices);
+        write!(f, "{panel}{devices}")
+    }
 }
 
 // The listing of a run, the panel first, on a floor with so many open cells.
 pub fn listing(heap: Global, stops: &[Cell], cells: usize) -> Result<String, AllocError>
     ensures { IfOk result (λ s. string_bytes s ≡ listing_text stops.now cells) }
 {
-    let mut text = String::from_str(heap, "kind row col\n")?;
-    add_stops(&mut text, heap, stops)?;
-    let last = format!(in heap; "open\n{cells}\n")?;
-    text.push_str(last.as_str())?;
-    Ok(text)
+    let stops = Stops(stops);
+    format!(in heap; "kind row col\n{stops}open\n{cells}\n")
 }

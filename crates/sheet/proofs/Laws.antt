@@ -1,8 +1,9 @@
 -- The laws of the format: of pieces by induction on the text, of values by cases.
-use Rattle.std.proofs.Common.{◌≡◌, ℕ, ◌+◌, ◌-◌, ◌/◌, ◌%◌, ◌<◌, ◌≤◌, Bool, true, false, cond, not, ◌&&◌, eqb, leb, List, [], ◌∷◌, ◌++◌, length, Some, None, Ok, Err, codes, decimal, Option, Result, sym, refl, ap, ◌∙◌, subst, ⊎_elim, arith}
+use Rattle.std.proofs.Common.{◌≡◌, ℕ, ◌+◌, ◌-◌, ◌/◌, ◌%◌, ◌≤◌, Bool, true, false, cond, not, ◌&&◌, eqb, leb, List, [], ◌∷◌, ◌++◌, Some, None, Ok, Err, codes, decimal, Option, Result, sym, refl, ap, ◌∙◌, subst, ⊎_elim, arith}
 use Rattle.std.specs.Option.{option_map, ok_or}
-use Rattle.std.specs.List.{AllByRecursion}
+use Rattle.std.specs.List.{AllByRecursion, join_with_byte, onto_first}
 use Rattle.std.specs.Str.{bytes_eq}
+use Rattle.std.proofs.lemmas.List.Splits.{join_with_byte-slice_split}
 use Rattle.std.proofs.lemmas.Fmt.{decimal_digit, decimal_step}
 use Rattle.std.proofs.lemmas.Slice.Eq.{bytes_eq-Decides}
 use Rattle.std.proofs.lemmas.Bool.{cond-true, cond-false, cases_eq, cases_Bool, eq-eqb, ne_eqb, eqb-true, le-leb, leb-true, and_parts, and_from, not-true, both_ways, cases_lt}
@@ -14,30 +15,13 @@ use Rattle.sheet.specs.declared.Mark.TheVariants.{Open}
 use Rattle.sheet.specs.declared.columns.Names.{Names}
 use Rattle.sheet.specs.declared.refusals.Refusal.{Refusal}
 use Rattle.sheet.specs.declared.refusals.Refusal.TheVariants.{FieldCount}
-use Rattle.sheet.specs.Format.{ahead, pieces, unended, fields, three, same_column, each_once, as_column, as_names, within, as_coordinate, as_mark, entry_at, filled, and_then, entry_of, as_entry}
-use Rattle.sheet.specs.Laws.{joined_by, Unbroken, name_of, Holds, Named, Valued, FormatLaws}
-use Rattle.sheet.proofs.Splits.{some_piece}
+use Rattle.sheet.specs.Format.{pieces, fields, three, same_column, each_once, as_column, as_names, within, as_coordinate, as_mark, entry_at, filled, and_then, entry_of, as_entry}
+use Rattle.sheet.proofs.Splits.{without_feed}
+use Rattle.sheet.specs.Laws.{Unbroken, name_of, Holds, Named, Valued, FormatLaws}
 
 -- pieces
 
-join_empty : (s : ℕ) (ps : List (List ℕ)) → 0 < length ps → joined_by s ([] ∷ ps) ≡ s ∷ joined_by s ps
-join_empty s [] some = absurd (omega arith)
-join_empty s (p ∷ ps) some = refl
-
-join_ahead : (s b : ℕ) (ps : List (List ℕ)) → 0 < length ps → joined_by s (ahead b ps) ≡ b ∷ joined_by s ps
-join_ahead s b [] some = absurd (omega arith)
-join_ahead s b (p ∷ []) some = refl
-join_ahead s b (p ∷ q ∷ more) some = refl
-
-rejoined : (s : ℕ) (text : List ℕ) → joined_by s (pieces s text) ≡ text
-rejoined s [] = refl
-rejoined s (b ∷ text) =
-    ⊎_elim
-    (λ same. ap (joined_by s) (cond-true _ _ _ (eq-eqb b s same)) ∙ join_empty s (pieces s text) (some_piece s text) ∙ (λ i. sym same i ∷ rejoined s text i))
-    (λ differ. ap (joined_by s) (cond-false _ _ _ (ne_eqb b s differ)) ∙ join_ahead s b (pieces s text) (some_piece s text) ∙ ap (λ l. b ∷ l) (rejoined s text))
-    (cases_eq b s)
-
-unbroken_ahead : (s b : ℕ) (ps : List (List ℕ)) → (b ≡ s → ⊥) → AllByRecursion (Unbroken s) ps → AllByRecursion (Unbroken s) (ahead b ps)
+unbroken_ahead : (s b : ℕ) (ps : List (List ℕ)) → (b ≡ s → ⊥) → AllByRecursion (Unbroken s) ps → AllByRecursion (Unbroken s) (onto_first b ps)
 unbroken_ahead s b [] differ all = ((differ, tt), tt)
 unbroken_ahead s b (p ∷ ps) differ all = ((differ, all.0), all.1)
 
@@ -50,25 +34,20 @@ unbroken s (b ∷ text) =
     (cases_eq b s)
 
 -- a byte that is no separator goes in front of the first piece
-one_ahead : (s b : ℕ) (text : List ℕ) → (b ≡ s → ⊥) → pieces s (b ∷ text) ≡ ahead b (pieces s text)
+one_ahead : (s b : ℕ) (text : List ℕ) → (b ≡ s → ⊥) → pieces s (b ∷ text) ≡ onto_first b (pieces s text)
 one_ahead s b text differ = cond-false _ _ _ (ne_eqb b s differ)
 
 unique_last : (s : ℕ) (p : List ℕ) → Unbroken s p → pieces s p ≡ p ∷ []
 unique_last s [] u = refl
-unique_last s (b ∷ p) u = one_ahead s b p u.0 ∙ ap (ahead b) (unique_last s p u.1)
+unique_last s (b ∷ p) u = one_ahead s b p u.0 ∙ ap (onto_first b) (unique_last s p u.1)
 
 unique_first : (s : ℕ) (p text : List ℕ) → Unbroken s p → pieces s (p ++ s ∷ text) ≡ p ∷ pieces s text
 unique_first s [] text u = cond-true _ _ _ (eq-eqb s s refl)
-unique_first s (b ∷ p) text u = one_ahead s b (p ++ s ∷ text) u.0 ∙ ap (ahead b) (unique_first s p text u.1)
+unique_first s (b ∷ p) text u = one_ahead s b (p ++ s ∷ text) u.0 ∙ ap (onto_first b) (unique_first s p text u.1)
 
-unique : (s : ℕ) (p : List ℕ) (more : List (List ℕ)) → AllByRecursion (Unbroken s) (p ∷ more) → pieces s (joined_by s (p ∷ more)) ≡ p ∷ more
+unique : (s : ℕ) (p : List ℕ) (more : List (List ℕ)) → AllByRecursion (Unbroken s) (p ∷ more) → pieces s (join_with_byte s (p ∷ more)) ≡ p ∷ more
 unique s p [] all = unique_last s p all.0
-unique s p (q ∷ more) all = unique_first s p (joined_by s (q ∷ more)) all.0 ∙ ap (λ ps. p ∷ ps) (unique s q more all.1)
-
-without_feed : (text : List ℕ) → unended (text ++ 10 ∷ []) ≡ text
-without_feed [] = refl
-without_feed (b ∷ []) = refl
-without_feed (b ∷ c ∷ text) = ap (λ l. b ∷ l) (without_feed (c ∷ text))
+unique s p (q ∷ more) all = unique_first s p (join_with_byte s (q ∷ more)) all.0 ∙ ap (λ ps. p ∷ ps) (unique s q more all.1)
 
 -- coordinates
 
@@ -261,4 +240,4 @@ values line ns first n e named h = at (three (fields line)) refl h where
 
 pub format_laws : FormatLaws
 format_laws =
-    record { rejoined = rejoined; unbroken = unbroken; unique = unique; ended = λ text. ap (pieces 10) (without_feed text); written = written; numbers = numbers; names = names; values = values }
+    record { rejoined = join_with_byte-slice_split; unbroken = unbroken; unique = unique; ended = λ text. ap (pieces 10) (without_feed text); written = written; numbers = numbers; names = names; values = values }

@@ -1,6 +1,4 @@
 pub mod Splits
-pub mod Scans
-pub mod Distinct
 pub mod Sound
 pub mod Steps
 pub mod Marked

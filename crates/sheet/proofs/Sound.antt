@@ -1,11 +1,16 @@
 -- What every reading keeps of the entries so far: they are inside, apart, numbered by their lines, with at most one panel.
 use Rattle.std.proofs.Common.{◌≡◌, ℕ, ◌+◌, ◌-◌, ◌*◌, ◌<◌, ◌≤◌, Bool, true, false, cond, ◌&&◌, ◌||◌, eqb, leb, List, [], ◌∷◌, ◌++◌, map, length, get_or, IfSome, IfOk, Some, None, Ok, Err, Option, Result, sym, refl, ap, ◌∙◌, subst, ⊎_elim, arith}
 use Rattle.std.specs.Option.{option_map, ok_or}
-use Rattle.std.specs.List.{AllByRecursion}
+use Rattle.std.specs.Cmp.{nat_eq_equiv}
+use Rattle.std.specs.List.{AllByRecursion, IsDistinct, list_any}
 use Rattle.std.proofs.lemmas.List.Elements.{filter-append}
-use Rattle.std.proofs.ByRecursion.{All-push, All-get_or, All-map, All-weaker}
+use Rattle.std.proofs.ByRecursion.{All-push, All-get_or}
 use Rattle.std.proofs.lemmas.List.{length-append, length-map, length_push, get_or-map, get_or_push, get_or_append_left, map_push}
-use Rattle.std.proofs.lemmas.Bool.{cond_both, and_parts, and_from, or_parts, leb-true, eq-eqb, cases_lt, both_ways}
+use Rattle.std.proofs.lemmas.Bool.{cond_both, and_parts, and_from, or_parts, or_from, or_cases, leb-true, eq-eqb, eqb-true, ne_eqb, cases_lt, both_ways}
+use Rattle.std.proofs.lemmas.List.Folds.{list_any-append}
+use Rattle.std.proofs.lemmas.Map.Keys.{IsDistinct-push, apart_from_distinct}
+use Rattle.std.proofs.lemmas.Map.Steps.{length-le_from_distinct_below}
+use Rattle.std.proofs.Math.Bool.{or-false}
 use Rattle.floor.specs.declared.Cell.{Cell}
 use Rattle.sheet.specs.declared.columns.Column.{Column}
 use Rattle.sheet.specs.declared.columns.Column.TheVariants as column
@@ -17,7 +22,6 @@ use Rattle.sheet.specs.declared.refusals.Refusal.{Refusal}
 use Rattle.sheet.specs.Format.{within, three, fields, as_coordinate, as_mark, entry_at, filled, and_then, entry_of, as_entry}
 use Rattle.sheet.specs.Meaning.{same_cell, some, named, same_mark, marked, has_panel, admitted, added}
 use Rattle.sheet.specs.Accepted.{Accepted}
-use Rattle.sheet.proofs.Distinct.{Distinct, distinct_push, distinct_get_or, few_distinct}
 
 -- an entry of line n on a floor of 16 by 16
 pub record Inside (n : ℕ) (e : Entry) : Type 0 where
@@ -95,16 +99,13 @@ place e = 16 * e.cell.row + e.cell.col
 
 pub record Sound (es : List Entry) : Type 0 where
   pub on_floor : AllByRecursion (λ e. (e.cell.row ≤ 15) × (e.cell.col ≤ 15)) es
-  pub apart : Distinct (map place es)
+  pub apart : IsDistinct eqb (map place es)
   pub numbered : (i : ℕ) (d : Entry) → i < length es → (get_or es i d).line ≡ i + 2
   pub panel : length (marked Panel es) ≡ cond (has_panel es) 1 0
 
 pub sound_none : Sound []
+unfolding IsDistinct
 sound_none = record { on_floor = tt; apart = tt; numbered = λ i d h. absurd (omega arith); panel = refl }
-
-none_pass : (test : Entry → Bool) (es : List Entry) → some test es ≡ false → AllByRecursion (λ e. test e ≡ false) es
-none_pass test [] h = tt
-none_pass test (e ∷ es) h = let both = or_parts (test e) (some test es) h in (both.0, none_pass test es both.1)
 
 same_place : (a b : Entry) → a.cell.row ≤ 15 → a.cell.col ≤ 15 → b.cell.row ≤ 15 → b.cell.col ≤ 15 → place a ≡ place b → same_cell a.cell b.cell ≡ true
 same_place a b ar ac br bc e = and_from _ _ (eq-eqb a.cell.row b.cell.row (omega arith)) (eq-eqb a.cell.col b.cell.col (omega arith))
@@ -117,14 +118,7 @@ panel_push es e h single =
     ∙ ap (λ t. cond t 1 0) (sym (some_push test es e))
   where
     some_push : (test : Entry → Bool) (xs : List Entry) (x : Entry) → some test (xs ++ x ∷ []) ≡ (some test xs || test x)
-    some_push test [] x = or_false (test x) where
-      or_false : (b : Bool) → (b || false) ≡ (false || b)
-      or_false true = refl
-      or_false false = refl
-    some_push test (y ∷ ys) x = ap (λ t. test y || t) (some_push test ys x) ∙ or_assoc (test y) (some test ys) (test x) where
-      or_assoc : (a b c : Bool) → (a || (b || c)) ≡ ((a || b) || c)
-      or_assoc true b c = refl
-      or_assoc false b c = refl
+    some_push test xs x = list_any-append test xs (x ∷ []) ∙ ap (λ t. some test xs || t) (or-false (test x))
 
     by_cases : (p q : Bool) (n : ℕ) → (p && q) ≡ false → n ≡ cond q 1 0 → n + length (cond p (e ∷ []) []) ≡ cond (q || p) 1 0
     by_cases true true n s k = absurd (both_ways true s refl)
@@ -136,7 +130,7 @@ pub sound_push : (es : List Entry) (e : Entry) → Sound es → Joins (length es
 sound_push es e h j =
     record {
       on_floor = All-push _ es e h.on_floor (j.inside.row, j.inside.col);
-      apart = subst Distinct (sym (map_push place es e)) (distinct_push (map place es) (place e) h.apart (All-map (λ n. n ≡ place e → ⊥) place es (other_places es h.on_floor (none_pass _ es j.fresh))));
+      apart = subst (IsDistinct eqb) (sym (map_push place es e)) (IsDistinct-push nat_eq_equiv (map place es) (place e) h.apart (other_places es h.on_floor j.fresh));
       numbered = λ i d l. ⊎_elim
           (λ before. ap (λ x. x.line) (get_or_append_left es (e ∷ []) d i before) ∙ h.numbered i d before)
           (λ past.
@@ -146,14 +140,20 @@ sound_push es e h j =
       panel = panel_push es e h.panel j.single;
     }
   where
-    other_places : (xs : List Entry) → AllByRecursion (λ x. (x.cell.row ≤ 15) × (x.cell.col ≤ 15)) xs → AllByRecursion (λ x. same_cell x.cell e.cell ≡ false) xs → AllByRecursion (λ x. place x ≡ place e → ⊥) xs
-    other_places [] a b = tt
+    other_places : (xs : List Entry) → AllByRecursion (λ x. (x.cell.row ≤ 15) × (x.cell.col ≤ 15)) xs → named e.cell xs ≡ false → list_any (eqb (place e)) (map place xs) ≡ false
+    other_places [] a b = refl
     other_places (x ∷ xs) a b =
-        ((λ same. both_ways _ b.0 (same_place x e a.0.0 a.0.1 j.inside.row j.inside.col same)), other_places xs a.1 b.1)
+        let both = or_parts (same_cell x.cell e.cell) (named e.cell xs) b in
+        or_from _ _ (ne_eqb (place e) (place x) (λ same. both_ways _ both.0 (same_place x e a.0.0 a.0.1 j.inside.row j.inside.col (sym same)))) (other_places xs a.1 both.1)
+
+-- places are numbers below 256
+places_low : (q : ℕ) (es : List Entry) → AllByRecursion (λ e. (e.cell.row ≤ 15) × (e.cell.col ≤ 15)) es → list_any (eqb q) (map place es) ≡ true → q < 256
+places_low q [] a found = cc
+places_low q (e ∷ es) a found = ⊎_elim (λ here. let is = eqb-true q (place e) here in omega (arith, a.0.0, a.0.1)) (places_low q es a.1) (or_cases (eqb q (place e)) _ found)
 
 -- a floor of 16 by 16 has 256 cells
 pub sound_few : (es : List Entry) → Sound es → length es ≤ 256
-sound_few es h = subst (λ n. n ≤ 256) (length-map es place) (few_distinct 256 (map place es) h.apart (All-map (λ n. n < 256) place es (All-weaker _ (λ e. place e < 256) (λ e on. omega (arith, on.0, on.1)) es h.on_floor)))
+sound_few es h = subst (λ n. n ≤ 256) (length-map es place) (length-le_from_distinct_below (map place es) 256 h.apart (λ q. places_low q es h.on_floor))
 
 pub accepted : (es : List Entry) → Sound es → has_panel es ≡ true → Accepted es
 accepted es h one =
@@ -163,8 +163,8 @@ accepted es h one =
       apart = λ i j d before l same.
           let left : i < length es = omega arith in
           let long = length-map es place in
-          distinct_get_or (map place es) i j 0 h.apart before (omega arith)
-          (get_or-map place es i d 0 left ∙ ap (λ (c : Cell). 16 * c.row + c.col) same ∙ sym (get_or-map place es j d 0 l));
+          both_ways _ (apart_from_distinct eqb (map place es) i j 0 h.apart before (omega arith))
+          (eq-eqb _ _ (get_or-map place es i d 0 left ∙ ap (λ (c : Cell). 16 * c.row + c.col) same ∙ sym (get_or-map place es j d 0 l)));
       numbered = h.numbered;
       panel = h.panel ∙ ap (λ t. cond t 1 0) one;
     }

@@ -1,60 +1,72 @@
--- A text is parted at its first separator, and loses its last byte if that is a line feed: by induction on the text.
-use Rattle.std.proofs.Common.{◌≡◌, ℕ, zero, suc, ◌-◌, ◌<◌, false, eqb, List, [], ◌∷◌, length, get_or, take, drop, None, sym, refl, ap, ◌∙◌, arith}
-use Rattle.std.proofs.lemmas.Bool.{cond-true, cond-false, cond_both, eq-eqb, ne_eqb}
-use Rattle.sheet.specs.Format.{ahead, pieces, unended, fields, three}
+-- Calls of `next` on pieces, the fields of a line, and a text without the line feed at its end.
+use Rattle.std.proofs.Common.{◌≡◌, ℕ, ◌+◌, List, [], ◌∷◌, ◌++◌, drop, Some, None, Option, Bor, MatchOption, sym, refl, ap, ◌∙◌, subst}
+use Rattle.std.specs.Option.{unwrap_or}
+use Rattle.std.proofs.lemmas.Bool.{cond-false, ne_eqb}
+use Rattle.std.proofs.lemmas.Iterator.{YieldsList}
+use Rattle.std.proofs.lemmas.List.{drop-drop}
+use Rattle.sheet.specs.Format.{unended, three}
 
-pub one_piece : (s : ℕ) (xs : List ℕ) → ((k : ℕ) → k < length xs → get_or xs k 0 ≡ s → ⊥) → pieces s xs ≡ xs ∷ []
-one_piece s [] none = refl
-one_piece s (x ∷ xs) none =
-    let other : eqb x s ≡ false = ne_eqb x s (none 0 (omega arith)) in
-    cond-false _ _ _ other ∙ ap (ahead x) (one_piece s xs (λ k l. none (suc k) (omega arith)))
+-- a call of `next` takes the first of what is left
+module _ {S A B : Type 0} {steps : S → Option A → S → Type 0} {v : A → B} (s t : S) where
+  pub took : (x : A) (ys : List B) → YieldsList steps v s ys → steps s (Some x) t → (more : List B) × (ys ≡ v x ∷ more) × YieldsList steps v t more
+  took x [] all call = absurd (all.runs x t call)
+  took x (y ∷ ys) all call = let one = all.runs.1 x t call in (ys, ap (λ z. z ∷ ys) (sym one.0), record { runs = one.1 })
 
-pub first_piece : (s : ℕ) (xs : List ℕ) (n : ℕ) → ((k : ℕ) → k < n → get_or xs k 0 ≡ s → ⊥) → n < length xs → get_or xs n 0 ≡ s → pieces s xs ≡ take n xs ∷ pieces s (drop (suc n) xs)
-first_piece s [] n none inside here = absurd (omega arith)
-first_piece s (x ∷ xs) zero none inside here = cond-true _ _ _ (eq-eqb x s here)
-first_piece s (x ∷ xs) (suc n) none inside here =
-    let other : eqb x s ≡ false = ne_eqb x s (none 0 (omega arith)) in
-    cond-false _ _ _ other ∙ ap (ahead x) (first_piece s xs n (λ k l. none (suc k) (omega arith)) (omega arith) here)
+  -- the same, where the first n are gone
+  pub took_at : (x : A) (ys : List B) (n : ℕ) → YieldsList steps v s (drop n ys) → steps s (Some x) t → (drop n ys ≡ v x ∷ drop (n + 1) ys) × YieldsList steps v t (drop (n + 1) ys)
+  took_at x ys n all call =
+      let one = took x (drop n ys) all call in
+      let more : drop (n + 1) ys ≡ one.0 = sym (drop-drop 1 n ys) ∙ ap (drop 1) one.1 in
+      (one.1 ∙ ap (λ l. v x ∷ l) (sym more), subst (YieldsList steps v t) (sym more) one.2)
 
-pub ended : (xs : List ℕ) (n : ℕ) → length xs ≡ suc n → get_or xs n 0 ≡ 10 → take n xs ≡ unended xs
-ended [] n long here = absurd (omega arith)
-ended (b ∷ []) zero long here = sym (cond-true _ _ _ (eq-eqb b 10 here))
-ended (b ∷ []) (suc n) long here = absurd (omega arith)
-ended (b ∷ c ∷ text) zero long here = absurd (omega arith)
-ended (b ∷ c ∷ text) (suc n) long here = ap (λ r. b ∷ r) (ended (c ∷ text) n (omega arith) here)
+  pub none_left : (ys : List B) → YieldsList steps v s ys → steps s None t → ys ≡ []
+  none_left [] all call = refl
+  none_left (y ∷ ys) all call = absurd (all.runs.0 t call)
 
-pub not_ended : (xs : List ℕ) (n : ℕ) → length xs ≡ suc n → (get_or xs n 0 ≡ 10 → ⊥) → xs ≡ unended xs
-not_ended [] n long none = refl
-not_ended (b ∷ []) zero long none = sym (cond-false _ _ _ (ne_eqb b 10 none))
-not_ended (b ∷ []) (suc n) long none = absurd (omega arith)
-not_ended (b ∷ c ∷ text) zero long none = absurd (omega arith)
-not_ended (b ∷ c ∷ text) (suc n) long none = ap (λ r. b ∷ r) (not_ended (c ∷ text) n (omega arith) none)
+-- three pieces are told from fewer and from more by four calls
+module _ {S A B : Type 0} {steps : S → Option A → S → Type 0} {v : A → B} (s t : S) (a : A) where
+  pub one_piece : (e : S) (ys : List B) → YieldsList steps v s ys → steps s (Some a) t → steps t None e → None ≡ three ys
+  one_piece e [] all first end = refl
+  one_piece e (x ∷ []) all first end = refl
+  one_piece e (x ∷ y ∷ ys) all first end = absurd ((all.runs.1 _ _ first).1.0 _ end)
 
--- the same, by the last index as the code has it
-pub last_feed : (xs : List ℕ) → get_or xs (length xs - 1) 0 ≡ 10 → take (length xs - 1) xs ≡ unended xs
-last_feed [] here = absurd (omega arith)
-last_feed (x ∷ xs) here = ended (x ∷ xs) (length (x ∷ xs) - 1) (omega arith) here
+  module _ (u : S) (b : A) where
+    pub two_pieces : (e : S) (ys : List B) → YieldsList steps v s ys → steps s (Some a) t → steps t (Some b) u → steps u None e → None ≡ three ys
+    two_pieces e [] all first second end = refl
+    two_pieces e (x ∷ []) all first second end = refl
+    two_pieces e (x ∷ y ∷ []) all first second end = refl
+    two_pieces e (x ∷ y ∷ z ∷ ys) all first second end = absurd (((all.runs.1 _ _ first).1.1 _ _ second).1.0 _ end)
 
-pub last_other : (xs : List ℕ) → (get_or xs (length xs - 1) 0 ≡ 10 → ⊥) → xs ≡ unended xs
-last_other [] none = refl
-last_other (x ∷ xs) none = not_ended (x ∷ xs) (length (x ∷ xs) - 1) (omega arith) none
+    module _ (w : S) (c : A) where
+      pub three_pieces : (e : S) (ys : List B) → YieldsList steps v s ys → steps s (Some a) t → steps t (Some b) u → steps u (Some c) w → steps w None e → Some (v a, v b, v c) ≡ three ys
+      three_pieces e [] all first second third end = absurd (all.runs _ _ first)
+      three_pieces e (x ∷ []) all first second third end = absurd ((all.runs.1 _ _ first).1 _ _ second)
+      three_pieces e (x ∷ y ∷ []) all first second third end = absurd (((all.runs.1 _ _ first).1.1 _ _ second).1 _ _ third)
+      three_pieces e (x ∷ y ∷ z ∷ []) all first second third end =
+          let one = all.runs.1 _ _ first in
+          let two = one.1.1 _ _ second in
+          let three = two.1.1 _ _ third in
+          λ i. Some (one.0 i, two.0 i, three.0 i)
+      three_pieces e (x ∷ y ∷ z ∷ x′ ∷ ys) all first second third end = absurd ((((all.runs.1 _ _ first).1.1 _ _ second).1.1 _ _ third).1.0 _ end)
 
-pub nothing_ended : (xs : List ℕ) → length xs < 1 → xs ≡ unended xs
-nothing_ended [] none = refl
-nothing_ended (x ∷ xs) none = absurd (omega arith)
+      pub more_pieces : (e : S) (d : A) (ys : List B) → YieldsList steps v s ys → steps s (Some a) t → steps t (Some b) u → steps u (Some c) w → steps w (Some d) e → None ≡ three ys
+      more_pieces e d [] all first second third fourth = refl
+      more_pieces e d (x ∷ []) all first second third fourth = refl
+      more_pieces e d (x ∷ y ∷ []) all first second third fourth = refl
+      more_pieces e d (x ∷ y ∷ z ∷ []) all first second third fourth = absurd ((((all.runs.1 _ _ first).1.1 _ _ second).1.1 _ _ third).1 _ _ fourth)
+      more_pieces e d (x ∷ y ∷ z ∷ x′ ∷ ys) all first second third fourth = refl
 
-some_ahead : (b : ℕ) (ps : List (List ℕ)) → 0 < length (ahead b ps)
-some_ahead b [] = omega arith
-some_ahead b (p ∷ ps) = omega arith
+pub without_feed : (text : List ℕ) → unended (text ++ 10 ∷ []) ≡ text
+without_feed [] = refl
+without_feed (b ∷ []) = refl
+without_feed (b ∷ c ∷ text) = ap (λ l. b ∷ l) (without_feed (c ∷ text))
 
--- a text has a first piece
-pub some_piece : (s : ℕ) (xs : List ℕ) → 0 < length (pieces s xs)
-some_piece s [] = omega arith
-some_piece s (x ∷ xs) = cond_both (eqb x s) ([] ∷ pieces s xs) (ahead x (pieces s xs)) (λ ps. 0 < length ps) (λ _. omega arith) (λ _. some_ahead x (pieces s xs))
+not_ended : (text : List ℕ) → ((front : List ℕ) → text ≡ front ++ 10 ∷ [] → ⊥) → unended text ≡ text
+not_ended [] none = refl
+not_ended (b ∷ []) none = cond-false _ _ _ (ne_eqb b 10 (λ same. none [] (ap (λ x. x ∷ []) same)))
+not_ended (b ∷ c ∷ text) none = ap (λ l. b ∷ l) (not_ended (c ∷ text) (λ front is. none (b ∷ front) (ap (λ l. b ∷ l) is)))
 
-more_than_three : (a b c : List ℕ) (ps : List (List ℕ)) → 0 < length ps → None ≡ three (a ∷ b ∷ c ∷ ps)
-more_than_three a b c [] some = absurd (omega arith)
-more_than_three a b c (p ∷ ps) some = refl
-
-pub fourth_field : (a b c text line : List ℕ) → fields line ≡ a ∷ b ∷ c ∷ pieces 32 text → None ≡ three (fields line)
-fourth_field a b c text line is = more_than_three a b c (pieces 32 text) (some_piece 32 text) ∙ ap three (sym is)
+-- what is left of a text that loses a line feed at its end, if it has one
+pub front_of : (text : Bor (List ℕ)) (r : Option (Bor (List ℕ))) → MatchOption r ((front : List ℕ) → text.now ≡ front ++ 10 ∷ [] → ⊥) (λ x. text.now ≡ x.now ++ 10 ∷ []) → (unwrap_or r text).now ≡ unended text.now
+front_of text None none = sym (not_ended text.now none)
+front_of text (Some x) is = sym (ap unended is ∙ without_feed x.now)

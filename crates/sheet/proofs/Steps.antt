@@ -1,26 +1,51 @@
 -- The loop over lines: what is left to read, after the entries so far, means what the whole does.
-use Rattle.std.proofs.Common.{◌≡◌, ℕ, ◌+◌, ◌<◌, ◌≤◌, Bool, true, false, cond, List, [], ◌∷◌, ◌++◌, length, take, drop, set, IfOk, Some, None, Ok, Err, sym, refl, ap, ◌∙◌, subst, arith}
+use Rattle.std.proofs.Common.{◌≡◌, ℕ, ◌+◌, ◌<◌, ◌≤◌, Bool, true, false, cond, List, [], ◌∷◌, ◌++◌, length, take, drop, set, IfOk, Some, None, Ok, Err, Option, sym, refl, ap, ◌∙◌, subst, arith}
 use Rattle.std.proofs.lemmas.List.{length-take-le, length-set, length_push, take-append-drop, take_more_set, drop-set-lt, drop-drop}
+use Rattle.std.specs.Option.{ok_or}
 use Rattle.sheet.specs.declared.Entry.{Entry}
 use Rattle.sheet.specs.declared.columns.Names.{Names}
 use Rattle.sheet.specs.declared.refusals.Refusal.{Refusal}
 use Rattle.sheet.specs.declared.refusals.Refusal.TheVariants.{BadNames, NoPanel}
-use Rattle.sheet.specs.Format.{lines, as_names}
+use Rattle.sheet.specs.Format.{pieces, lines, as_names}
 use Rattle.std.proofs.lemmas.Bool.{cond-false, le-ltb}
 use Rattle.sheet.specs.Meaning.{Reading, reading, onward, added, read_on, has_panel, answered, over, read_lines, reading_of, nothing}
 use Rattle.sheet.proofs.Sound.{Sound, Joins, sound_none, sound_push, sound_few, added_joins, accepted}
 use Rattle.sheet.specs.Accepted.{Accepted}
 
 pub record Sofar (names : Names) (whole : Reading) (total : ℕ) (old list : List Entry) (count : ℕ) (left : List (List ℕ)) : Type 0 where
-  pub many : count + length left ≡ total
+  pub many : count + length left + 1 ≡ total
   pub long : length list ≡ length old
   pub within : count ≤ length list
   pub rest : drop count list ≡ drop count old
   pub same : read_on names (count + 2) (take count list) left ≡ whole
   pub sound : Sound (take count list)
 
-pub start : (names : Names) (old : List Entry) (left : List (List ℕ)) → Sofar names (read_on names 2 [] left) (length left) old old 0 left
-start names old left = record { many = omega arith; long = refl; within = omega arith; rest = refl; same = refl; sound = sound_none }
+-- which names were read, where they were
+as_read : {X : Type 0} (o : Option X) (x : X) → Ok x ≡ ok_or o BadNames → o ≡ Some x
+as_read None x is = cc
+as_read (Some y) x is = cc
+
+none_read : {X : Type 0} (o : Option X) (f : Refusal) → Err f ≡ ok_or o BadNames → (o ≡ None) × (f ≡ BadNames)
+none_read None f is = (refl, cc)
+none_read (Some y) f is = cc
+
+-- without names, nothing is read
+pub no_names : (text first : List ℕ) (left : List (List ℕ)) (f : Refusal) → pieces 10 text ≡ first ∷ left → Err f ≡ ok_or (as_names first) BadNames → (read_lines (pieces 10 text) ≡ nothing BadNames) × (f ≡ BadNames)
+no_names text first left f split is =
+    let none = none_read (as_names first) f is in
+    (ap read_lines split ∙ ap (λ o. elim o [ None ↦ nothing BadNames | Some ns ↦ read_on ns 2 [] left ]) none.0, none.1)
+
+-- the names are read, and no entry yet
+pub start : (names : Names) (old : List Entry) (text first : List ℕ) (left : List (List ℕ)) → pieces 10 text ≡ first ∷ left → Ok names ≡ ok_or (as_names first) BadNames → Sofar names (read_lines (pieces 10 text)) (length (pieces 10 text)) old old 0 left
+start names old text first left split is =
+    record {
+      many = let all = ap length split in omega arith;
+      long = refl;
+      within = omega arith;
+      rest = refl;
+      same = sym (ap read_lines split ∙ ap (λ o. elim o [ None ↦ nothing BadNames | Some ns ↦ read_on ns 2 [] left ]) (as_read (as_names first) names is));
+      sound = sound_none;
+    }
 
 reads_on : (names : Names) (n : ℕ) (seen : List Entry) (line : List ℕ) (more : List (List ℕ)) (e : Entry) → added names n seen line ≡ Ok e → read_on names n seen (line ∷ more) ≡ read_on names (n + 1) (seen ++ e ∷ []) more
 unfolding read_on
@@ -83,7 +108,7 @@ module _ {names : Names} {whole : Reading} {total : ℕ} {old list : List Entry}
   pub at_most : count ≤ 256
   at_most = let few = sound_few (take count list) h.sound in let seen = seen_long h in omega arith
 
-  pub whole_sheet : has_panel (take count list) ≡ true → (count ≡ total) × Accepted (take count list)
+  pub whole_sheet : has_panel (take count list) ≡ true → (count + 1 ≡ total) × Accepted (take count list)
   whole_sheet one = (let all = h.many in omega arith, accepted (take count list) h.sound one)
 
   pub full : (b : Bool) → b ≡ has_panel (take count list) → cond b (Ok count) (Err NoPanel) ≡ answered whole
@@ -95,8 +120,6 @@ module _ {names : Names} {whole : Reading} {total : ℕ} {old list : List Entry}
   pub written : list ≡ over whole.meant old
   written = as_over h ∙ ap (λ r. over r.meant old) (sym (read_end names (count + 2) (take count list)) ∙ h.same)
 
--- a sheet that is neither too long nor without room, with its names right, is read from line 2 on
-pub read_whole : (text first : List ℕ) (space : ℕ) (left : List (List ℕ)) (names : Names) → length text ≤ 4096 → 256 ≤ space → lines text ≡ first ∷ left → as_names first ≡ Some names → reading_of text space ≡ read_on names 2 [] left
-read_whole text first space left names short wide split named =
-    cond-false _ _ _ (le-ltb 4096 (length text) short) ∙ cond-false _ _ _ (le-ltb space 256 wide) ∙ ap read_lines split
-    ∙ ap (λ o. elim o [ None ↦ nothing BadNames | Some ns ↦ read_on ns 2 [] left ]) named
+-- a sheet that is neither too long nor without room means what its lines do
+pub read_whole : (text : List ℕ) (space : ℕ) → length text ≤ 4096 → 256 ≤ space → reading_of text space ≡ read_lines (lines text)
+read_whole text space short wide = cond-false _ _ _ (le-ltb 4096 (length text) short) ∙ cond-false _ _ _ (le-ltb space 256 wide)

@@ -1,6 +1,7 @@
 -- The format of a sheet: a text is lines, a line is fields, and a field is a value of its column.
 use Rattle.std.specs.Prelude.{ℕ, ◌+◌, ◌-◌, Bool, true, false, cond, not, ◌&&◌, List, [], ◌∷◌, Some, None, Ok, Err, codes, Option, Result, ◌==◌, nat_le}
 use Rattle.std.specs.Option.{option_map, ok_or}
+use Rattle.std.specs.List.{slice_split}
 use Rattle.std.specs.Str.{bytes_eq}
 use Rattle.sheet.specs.declared.columns.Column.{Column}
 use Rattle.sheet.specs.declared.columns.Column.TheVariants as column
@@ -11,15 +12,9 @@ use Rattle.sheet.specs.declared.columns.Names.{Names}
 use Rattle.sheet.specs.declared.refusals.Refusal.{Refusal}
 use Rattle.sheet.specs.declared.refusals.Refusal.TheVariants.{FieldCount, BadField}
 
--- the pieces with one more byte in front of the first of them
-abbrev pub ahead : ℕ → List (List ℕ) → List (List ℕ)
-ahead b [] = (b ∷ []) ∷ []
-ahead b (piece ∷ more) = (b ∷ piece) ∷ more
-
 -- what a text's separators part: one piece more than there are separators, and a piece may be empty
 abbrev pub pieces : ℕ → List ℕ → List (List ℕ)
-pieces separator [] = [] ∷ []
-pieces separator (b ∷ text) = cond (b == separator) ([] ∷ pieces separator text) (ahead b (pieces separator text))
+pieces separator text = slice_split (λ b. b == separator) text
 
 -- a text without the line feed that ends its last line, if that is there
 abbrev pub unended : List ℕ → List ℕ

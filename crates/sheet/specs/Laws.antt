@@ -1,17 +1,11 @@
 -- Laws of the format, which say what lines, fields and values are without how they are found.
 use Rattle.std.specs.Prelude.{◌≡◌, ℕ, ◌≤◌, false, List, [], ◌∷◌, ◌++◌, Some, Ok, codes, decimal, ◌≢◌}
-use Rattle.std.specs.List.{AllByRecursion}
+use Rattle.std.specs.List.{AllByRecursion, join_with_byte}
 use Rattle.sheet.specs.declared.columns.Column.{Column}
 use Rattle.sheet.specs.declared.columns.Column.TheVariants as column
 use Rattle.sheet.specs.declared.Entry.{Entry}
 use Rattle.sheet.specs.declared.columns.Names.{Names}
 use Rattle.sheet.specs.Format.{pieces, lines, fields, same_column, as_names, as_coordinate, as_mark, as_entry}
-
--- pieces with a separator between each two
-abbrev pub joined_by : ℕ → List (List ℕ) → List ℕ
-joined_by separator [] = []
-joined_by separator (p ∷ []) = p
-joined_by separator (p ∷ q ∷ more) = p ++ separator ∷ joined_by separator (q ∷ more)
 
 -- no byte of a piece is the separator
 abbrev pub Unbroken : ℕ → List ℕ → Type 0
@@ -49,9 +43,9 @@ pub record Valued (line : List ℕ) (names : Names) (n : ℕ) (e : Entry) : Type
 
 pub record FormatLaws : Type 0 where
   -- the pieces of a text make it again, no piece has a separator, and no other pieces do so
-  pub rejoined : (s : ℕ) (text : List ℕ) → joined_by s (pieces s text) ≡ text
+  pub rejoined : (s : ℕ) (text : List ℕ) → join_with_byte s (pieces s text) ≡ text
   pub unbroken : (s : ℕ) (text : List ℕ) → AllByRecursion (Unbroken s) (pieces s text)
-  pub unique : (s : ℕ) (p : List ℕ) (more : List (List ℕ)) → AllByRecursion (Unbroken s) (p ∷ more) → pieces s (joined_by s (p ∷ more)) ≡ p ∷ more
+  pub unique : (s : ℕ) (p : List ℕ) (more : List (List ℕ)) → AllByRecursion (Unbroken s) (p ∷ more) → pieces s (join_with_byte s (p ∷ more)) ≡ p ∷ more
   -- a line feed at the end starts no line
   pub ended : (text : List ℕ) → lines (text ++ 10 ∷ []) ≡ pieces 10 text
   -- coordinates are what is written of the numbers 0 to 15, and nothing else

@@ -1,5 +1,6 @@
 -- What a whole sheet means: the entries up to its first fault, and that fault.
-use Rattle.std.specs.Prelude.{ℕ, ◌+◌, Bool, true, false, cond, ◌&&◌, ◌||◌, List, [], ◌∷◌, ◌++◌, length, drop, Some, None, Ok, Err, filter, Option, Result, ◌==◌, nat_lt}
+use Rattle.std.specs.Prelude.{ℕ, ◌+◌, Bool, true, false, cond, ◌&&◌, List, [], ◌∷◌, ◌++◌, length, drop, Some, None, Ok, Err, filter, Option, Result, ◌==◌, nat_lt}
+use Rattle.std.specs.List.{list_any}
 use Rattle.floor.specs.declared.Cell.{Cell}
 use Rattle.sheet.specs.declared.Entry.{Entry}
 use Rattle.sheet.specs.declared.Mark.{Mark}
@@ -15,8 +16,7 @@ same_cell a b = a.row == b.row && a.col == b.col
 
 -- whether one of the entries passes a test
 abbrev pub some : (Entry → Bool) → List Entry → Bool
-some test [] = false
-some test (e ∷ es) = test e || some test es
+some test es = list_any test es
 
 -- whether one of the entries names the cell
 abbrev pub named : Cell → List Entry → Bool

@@ -1,6 +1,7 @@
 // A line's fields under their columns' names, and the entry that they mean.
 ghost use Rattle.std.specs.Prelude.{◌≡◌};
-ghost use Rattle.std.specs.Str.{bytes_eq};
+ghost use Rattle.std.specs.Option.{ok_or};
+ghost use Rattle.sheet.specs.declared.refusals.Refusal.TheVariants.{BadNames};
 ghost use Rattle.sheet.specs.Format.{as_column, as_names, as_coordinate, mark_of, as_mark, filled, as_entry};
 ghost use Rattle.sheet.specs.Parts.{said, column_of};
 
@@ -17,6 +18,7 @@ pub enum Column {
 }
 
 // The columns from the left, as the first line names them.
+// Kept: in an array a column would have a number in the place of its name, and each function would say again what the numbers mean.
 #[derive(Clone, Copy, PartialEq, Eq, Debug)]
 pub struct Names {
     first: Column,
@@ -25,6 +27,7 @@ pub struct Names {
 }
 
 // A field under its column, as the part of the sheet that it came from.
+// Kept: it is a rule of the project that a field is an enum of borrowed bytes, with its line and its number.
 #[derive(Clone, Copy)]
 enum Token<'a> {
     Row(&'a [u8]),
@@ -40,38 +43,34 @@ struct Field<'a> {
     field: usize,
 }
 
-fn same(left: &[u8], right: &[u8]) -> bool
-    ensures { result ≡ bytes_eq left.now right.now }
-{
-    left == right
-}
+// A column by its name on the first line.
+impl TryFrom<&[u8]> for Column {
+    type Error = Refusal;
 
-fn column_of(name: &[u8]) -> Option<Column>
-    ensures { result ≡ as_column name.now }
-{
-    if same(name, b"row") {
-        Some(Column::Row)
-    } else if same(name, b"col") {
-        Some(Column::Col)
-    } else if same(name, b"mark") {
-        Some(Column::Mark)
-    } else {
-        None
+    ghost try_from_gives = { λ name r. r ≡ ok_or (as_column name.now) BadNames };
+
+    fn try_from(name: &[u8]) -> Result<Column, Refusal> {
+        match name {
+            b"row" => Ok(Column::Row),
+            b"col" => Ok(Column::Col),
+            b"mark" => Ok(Column::Mark),
+            _ => Err(Refusal::BadNames),
+        }
     }
 }
 
 // The columns that the first line names, each once.
-pub fn names_of(line: &[u8]) -> Option<Names>
-    ensures { result ≡ as_names line.now }
+pub fn names_of(line: &[u8]) -> Result<Names, Refusal>
+    ensures { result ≡ ok_or (as_names line.now) Refusal.BadNames }
 {
-    let (first, second, third) = three_fields(line)?;
-    let first = column_of(first)?;
-    let second = column_of(second)?;
-    let third = column_of(third)?;
+    let (first, second, third) = three_fields(line).ok_or(Refusal::BadNames)?;
+    let first = Column::try_from(first)?;
+    let second = Column::try_from(second)?;
+    let third = Column::try_from(third)?;
     if first == second || second == third || first == third {
-        return None;
+        return Err(Refusal::BadNames);
     }
-    Some(Names {
+    Ok(Names {
         first,
         second,
         third,
@@ -79,6 +78,7 @@ pub fn names_of(line: &[u8]) -> Option<Names>
 }
 
 // A row or a column: the first digit and the rest.
+// Kept: it is a rule of the project that a row or a column is taken apart so.
 fn coordinate(bytes: &[u8]) -> Option<usize>
     ensures { result ≡ as_coordinate bytes.now }
 {
@@ -92,6 +92,7 @@ fn coordinate(bytes: &[u8]) -> Option<usize>
     }
 }
 
+// Kept: it is a rule of the project that a mark is matched as a char.
 fn mark_of(sign: char) -> Option<Mark>
     ensures { result ≡ mark_of sign }
 {
@@ -155,6 +156,7 @@ pub fn entry_of(names: Names, line: usize, text: &[u8]) -> Result<Entry, Refusal
         mark: Mark::Open,
         line,
     };
+    // Kept: three lines, since a loop over columns and fields would have to count the field's number: no plainer.
     let entry = Field::new(names.first, first, line, 1).fill(blank)?;
     let entry = Field::new(names.second, second, line, 2).fill(entry)?;
     Field::new(names.third, third, line, 3).fill(entry)

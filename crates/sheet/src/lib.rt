@@ -1,13 +1,12 @@
 // A sheet of marked cells: what it means, and the run that it asks for.
 #![tactic(auto)]
 
-ghost use Rattle.std.specs.Prelude.{◌≡◌, ℕ, ◌+◌, ◌≤◌, [], ◌++◌, length, take, IfOk, OnOk};
-ghost use Rattle.writing.specs.Fronts.{over as over_front, Wrote};
-ghost use Rattle.sheet.specs.Format.{lines};
-ghost use Rattle.sheet.specs.Meaning.{same_cell, named, same_mark, has_panel, admitted, added, read_on, reading_of, answered, over};
+ghost use Rattle.std.specs.Prelude.{◌≡◌, ◌+◌, ◌≤◌, ◌++◌, length, take, IfOk, OnOk};
+ghost use Rattle.writing.specs.Fronts.{over as over_front, Fits, Added};
+ghost use Rattle.sheet.specs.Format.{pieces, lines};
+ghost use Rattle.sheet.specs.Meaning.{named, has_panel, admitted, added, read_lines, reading_of, answered, over};
 ghost use Rattle.sheet.specs.Accepted.{Accepted};
 ghost use Rattle.sheet.specs.Laws.{FormatLaws};
-ghost use Rattle.sheet.specs.Parts.{parted};
 ghost use Rattle.sheet.specs.Run.{cells_marked, run_of};
 
 mod columns;
@@ -18,7 +17,8 @@ use columns::{Names, entry_of, names_of};
 use floor::Cell;
 pub use refusals::{Figures, Refusal};
 use std::alloc::{AllocError, Global};
-use text::{cut, without_end};
+use text::without_end;
+use writing::Front;
 
 // What a sheet says of a cell that it names. Each of the three is open to cable.
 #[derive(Clone, Copy, PartialEq, Eq, Debug)]
@@ -41,40 +41,18 @@ const MAX_BYTES: usize = 4096;
 
 const MAX_ENTRIES: usize = 256;
 
-fn same_cell(left: Cell, right: Cell) -> bool
-    ensures { result ≡ same_cell left right }
-{
-    left.row == right.row && left.col == right.col
-}
-
 // Whether one of the entries names the cell.
 fn names_cell(entries: &[Entry], cell: Cell) -> bool
     ensures { result ≡ named cell entries.now }
 {
-    for entry in entries {
-        if same_cell(entry.cell, cell) {
-            return true;
-        }
-    }
-    false
-}
-
-fn same_mark(left: Mark, right: Mark) -> bool
-    ensures { result ≡ same_mark left right }
-{
-    left == right
+    entries.iter().any(|entry| entry.cell == cell)
 }
 
 // Whether one of the entries is a panel.
 fn has_panel(entries: &[Entry]) -> bool
     ensures { result ≡ has_panel entries.now }
 {
-    for entry in entries {
-        if same_mark(entry.mark, Mark::Panel) {
-            return true;
-        }
-    }
-    false
+    entries.iter().any(|entry| entry.mark == Mark::Panel)
 }
 
 // An entry after those before it: its cell is not named yet, and it is not a second panel.
@@ -84,7 +62,7 @@ fn admit(before: &[Entry], entry: Entry) -> Result<Entry, Refusal>
     if names_cell(before, entry.cell) {
         return Err(Refusal::CellTwice { line: entry.line });
     }
-    if same_mark(entry.mark, Mark::Panel) && has_panel(before) {
+    if entry.mark == Mark::Panel && has_panel(before) {
         return Err(Refusal::SecondPanel { line: entry.line });
     }
     Ok(entry)
@@ -98,21 +76,24 @@ fn read_line(names: Names, line: usize, text: &[u8], before: &[Entry]) -> Result
     admit(before, entry)
 }
 
-// Reads the lines from the second on into the front of the list.
-fn read_lines(names: Names, text: Option<&[u8]>, entries: &mut [Entry]) -> Result<usize, Refusal>
+// Reads the names of the first line, and the other lines into the front of the list.
+fn read_lines(text: &[u8], entries: &mut [Entry]) -> Result<usize, Refusal>
     requires { 256 ≤ length entries.old }
-    ensures answer { result ≡ answered (read_on names 2 [] (parted 10 text.entry)) }
-    ensures list { entries.new ≡ over (read_on names 2 [] (parted 10 text.entry)).meant entries.old }
+    ensures answer { result ≡ answered (read_lines (pieces 10 text.now)) }
+    ensures list { entries.new ≡ over (read_lines (pieces 10 text.now)).meant entries.old }
     ensures few { IfOk result (λ n. n ≤ 256) }
-    ensures accepted { IfOk result (λ n. (n ≡ length (parted 10 text.entry)) × Accepted (take n entries.new)) }
+    ensures accepted { IfOk result (λ n. (n + 1 ≡ length (pieces 10 text.now)) × Accepted (take n entries.new)) }
 {
-    let mut rest = text;
+    let mut lines = text.split(|byte| *byte == b'\n');
+    let Some(first) = lines.next() else {
+        return Err(Refusal::BadNames);
+    };
+    let names = names_of(first)?;
+    // Kept: the count is answered after the loop, where the number of an enumerate is gone.
     let mut count = 0;
-    while let Some(left) = rest {
-        let (line, after) = cut(left, b'\n');
+    for line in lines {
         entries[count] = read_line(names, count + 2, line, &entries[0..count])?;
         count += 1;
-        rest = after;
     }
     if !has_panel(&entries[0..count]) {
         return Err(Refusal::NoPanel);
@@ -121,6 +102,7 @@ fn read_lines(names: Names, text: Option<&[u8]>, entries: &mut [Entry]) -> Resul
 }
 
 // Reads a sheet into the front of a list, or says what is wrong with it.
+// Kept: it is a rule of the project that memory is lent, and that this library allocates none to read.
 pub fn read(sheet: &[u8], entries: &mut [Entry]) -> Result<usize, Refusal>
     ensures answer { result ≡ answered (reading_of sheet.now (length entries.old)) }
     ensures list { entries.new ≡ over (reading_of sheet.now (length entries.old)).meant entries.old }
@@ -133,23 +115,15 @@ pub fn read(sheet: &[u8], entries: &mut [Entry]) -> Result<usize, Refusal>
     if entries.len() < MAX_ENTRIES {
         return Err(Refusal::ShortList);
     }
-    let (first, rest) = cut(without_end(sheet), b'\n');
-    let Some(names) = names_of(first) else {
-        return Err(Refusal::BadNames);
-    };
-    read_lines(names, rest, entries)
+    read_lines(without_end(sheet), entries)
 }
 
 // Adds the cells of the entries that have a mark, in their order.
 fn add_marked(cells: &mut Vec<Cell>, entries: &[Entry], mark: Mark) -> Result<(), AllocError>
     ensures { OnOk result (cells.new.items ≡ cells.old.items ++ cells_marked mark entries.now) }
 {
-    for entry in entries {
-        if same_mark(entry.mark, mark) {
-            cells.push(entry.cell)?;
-        }
-    }
-    Ok(())
+    let marked = entries.iter().filter(|entry| entry.mark == mark);
+    cells.extend(marked.map(|entry| entry.cell))
 }
 
 // The run that the entries ask for: the panel, and then the devices in line order.
@@ -162,19 +136,16 @@ pub fn run(heap: Global, entries: &[Entry]) -> Result<Vec<Cell>, AllocError>
     Ok(cells)
 }
 
-// Writes the cells of the entries that have a mark, in their order, from a place of the list on, and answers the place after them.
-fn put_marked(cells: &mut [Cell], at: usize, entries: &[Entry], mark: Mark) -> usize
-    requires { at + length (cells_marked mark entries.now) ≤ length cells.old }
-    ensures { Wrote cells.old at (cells_marked mark entries.now) cells.new result }
+// Writes the cells of the entries that have a mark, in their order.
+// Kept beside add_marked: here memory is lent and fixed, and there a list grows and may find no memory.
+fn put_marked(cells: &mut Front<'_, Cell>, entries: &[Entry], mark: Mark)
+    requires { Fits cells.old (cells_marked mark entries.now) }
+    ensures { Added cells.old (cells_marked mark entries.now) cells.new }
 {
-    let mut next = at;
-    for entry in entries {
-        if same_mark(entry.mark, mark) {
-            cells[next] = entry.cell;
-            next += 1;
-        }
+    let marked = entries.iter().filter(|entry| entry.mark == mark);
+    for cell in marked.map(|entry| entry.cell) {
+        cells.put(&[cell]);
     }
-    next
 }
 
 // Writes the run that the entries ask for to the front of a list that is at least as long: the panel, and then the devices in line order. Answers its length.
@@ -184,8 +155,10 @@ pub fn put_run(entries: &[Entry], cells: &mut [Cell]) -> usize
     ensures list { cells.new ≡ over_front (run_of entries.now) cells.old }
     ensures within { result ≤ length entries.now }
 {
-    let next = put_marked(cells, 0, entries, Mark::Panel);
-    put_marked(cells, next, entries, Mark::Device)
+    let mut front = Front::new(cells);
+    put_marked(&mut front, entries, Mark::Panel);
+    put_marked(&mut front, entries, Mark::Device);
+    front.len()
 }
 
 // The laws of the format, for whoever reads its definition.

@@ -18,7 +18,8 @@ pub enum Refusal {
     NoPanel,
 }
 
-// A refusal's number, line and field, 0 where one does not apply.
+// A refusal's number, line and field.
+// Kept: it is a rule of the printed form that 0 stands where one does not apply.
 #[derive(Clone, Copy, PartialEq, Eq, Debug)]
 pub struct Figures {
     pub number: usize,
@@ -27,6 +28,7 @@ pub struct Figures {
 }
 
 impl Refusal {
+    // Kept: two variants have one number and some have values, so a match says what an `as` or a derive could not.
     pub fn in_figures(&self) -> Figures
         ensures { result ≡ figures_of self.now }
     {

@@ -1,7 +1,8 @@
 -- Idea: what stands before the place and the piece together are one front, so a second piece goes after it.
-use Rattle.std.proofs.Common.{◌≡◌, ℕ, suc, ◌+◌, ◌<◌, ◌≤◌, List, [], ◌∷◌, ◌++◌, length, take, drop, set, sym, refl, ap, ◌∙◌, append_assoc, add-zero, arith}
-use Rattle.std.proofs.lemmas.List.{length-append, take-append-drop, length-take-le, length-drop, take_at, drop_at, drop-drop, set_split}
-use Rattle.writing.specs.Fronts.{put, over, Wrote}
+use Rattle.std.proofs.Common.{◌≡◌, ℕ, ◌+◌, ◌≤◌, List, [], ◌++◌, length, take, drop, sym, refl, ap, ◌∙◌, subst, append_assoc, add-zero, arith}
+use Rattle.std.proofs.lemmas.List.{length-append, take-append-drop, length-take-le, length-drop, take_at, drop_at, drop-drop}
+use Rattle.writing.specs.declared.Front.{Front}
+use Rattle.writing.specs.Fronts.{put, over, Wrote, Fits, Added}
 
 module _ {X : Type 0} where
   -- how long the front is
@@ -54,12 +55,6 @@ module _ {X : Type 0} where
   pub known_as : (before : List X) (at : ℕ) (piece after other : List X) (m n : ℕ) → other ≡ after → n ≡ m → Wrote before at piece after m → Wrote before at piece other n
   known_as before at piece after other m n e f w = record { list = e ∙ w.list; on = f ∙ w.on }
 
-  -- one entry
-  pub single : (list : List X) (at : ℕ) (b : X) → at < length list → Wrote list at (b ∷ []) (set list at b) (at + 1)
-  single list at b inside =
-      let next : suc at ≡ at + 1 = omega arith in
-      record { list = set_split list at b inside ∙ ap (λ (n : ℕ). take at list ++ (b ∷ drop n list)) next; on = refl }
-
   -- a piece at the very front
   pub at_front : (before piece after : List X) (n : ℕ) → Wrote before 0 piece after n → (after ≡ over piece before) × (n ≡ length piece)
   at_front before piece after n w =
@@ -69,3 +64,45 @@ module _ {X : Type 0} where
   -- what was written over the front is no longer than the list
   pub no_longer : (before piece after : List X) → after ≡ over piece before → length piece ≤ length after
   no_longer before piece after e = let whole = ap length e ∙ length-append piece (drop (length piece) before) in omega arith
+
+-- Of a text that is to be written after the start, this part is left: it fits, and with it the whole is written.
+pub record Left {X : Type 0} (start : Front X) (whole : List X) (now : Front X) (left : List X) : Type 0 where
+  pub fits : Fits now left
+  pub rest : (after : Front X) → Added now left after → Added start whole after
+
+module _ {X : Type 0} where
+  -- at first the whole is left
+  pub all_left : (start : Front X) (whole : List X) → Fits start whole → Left start whole start whole
+  all_left start whole fits = record { fits = fits; rest = λ after a. a }
+
+  -- the first piece of what is left fits
+  pub first_fits : (start : Front X) (whole : List X) (now : Front X) (piece left : List X) → Left start whole now (piece ++ left) → Fits now piece
+  first_fits start whole now piece left l = record { room = room_first now.list.now now.len piece left l.fits.room }
+
+  -- and once it is written, the others are left
+  pub others_left : (start : Front X) (whole : List X) (now : Front X) (piece left : List X) (next : Front X) → Left start whole now (piece ++ left) → Added now piece next → Left start whole next left
+  others_left start whole now piece left next l a = record {
+    fits = record { room = room_next _ _ piece left _ _ l.fits.room a.wrote };
+    rest = λ after b. l.rest after (record {
+      same = b.same ∙ a.same;
+      wrote = then _ _ piece left _ _ _ _ (let f = l.fits.room in omega arith) a.wrote b.wrote;
+    });
+  }
+
+  -- what is left, in other words
+  pub left_as : (start : Front X) (whole : List X) (now : Front X) (left other : List X) → left ≡ other → Left start whole now left → Left start whole now other
+  left_as start whole now left other same l = subst (Left start whole now) same l
+
+  -- nothing more is written after it
+  added_none : (front : Front X) → Added front [] front
+  added_none front = record { same = refl; wrote = nothing front.list.now front.len }
+
+  -- once nothing is left, the whole is written
+  pub written : (start : Front X) (whole : List X) (now : Front X) → Left start whole now [] → Added start whole now
+  written start whole now l = l.rest now (added_none now)
+
+  -- what was written to a page that was empty stands at the front of the list that was lent to it
+  pub all_written : (start : Front X) (piece : List X) (after : Front X) (before list : List X) (n : ℕ) → start.len ≡ 0 → start.list.now ≡ before → Added start piece after → list ≡ after.list.now → n ≡ after.len → Wrote before 0 piece list n
+  all_written start piece after before list n none lent a back long =
+      known_as before 0 piece after.list.now list after.len n back long
+      (subst (λ (l : List X). Wrote l 0 piece after.list.now after.len) lent (subst (λ (at : ℕ). Wrote start.list.now at piece after.list.now after.len) none a.wrote))

@@ -1,14 +1,14 @@
 -- How long values in a line are at most.
-use Rattle.std.proofs.Common.{ℕ, zero, suc, ◌+◌, ◌/◌, ◌%◌, ◌^◌, ◌<◌, ◌≤◌, Bool, false, eqb, List, [], ◌∷◌, length, decimal, arith}
+use Rattle.std.proofs.Common.{ℕ, zero, suc, ◌+◌, ◌*◌, ◌/◌, ◌%◌, ◌^◌, ◌<◌, ◌≤◌, Bool, false, eqb, List, [], ◌∷◌, length, decimal, arith}
 use Rattle.std.specs.Fmt.{digit_glyph, digits_onto, digits}
 use Rattle.std.proofs.lemmas.Fmt.{length-decimal-le}
 use Rattle.std.proofs.lemmas.List.{length-append}
 use Rattle.std.proofs.lemmas.Bool.{cond_both}
-use Rattle.writing.specs.Values.{value, three_values}
+use Rattle.writing.specs.Values.{value, last_values}
 
 -- numbers of at most i, j and k digits, a space before each, and the line feed
-pub length_three_values : (a b c i j k : ℕ) → 0 < i → 0 < j → 0 < k → a < 10 ^ i → b < 10 ^ j → c < 10 ^ k → a < 2 ^ 64 → b < 2 ^ 64 → c < 2 ^ 64 → length (three_values a b c) ≤ i + j + k + 4
-unfolding three_values value
+pub length_three_values : (a b c i j k : ℕ) → 0 < i → 0 < j → 0 < k → a < 10 ^ i → b < 10 ^ j → c < 10 ^ k → a < 2 ^ 64 → b < 2 ^ 64 → c < 2 ^ 64 → length (last_values (a ∷ b ∷ c ∷ [])) ≤ i + j + k + 4
+unfolding last_values value
 length_three_values a b c i j k p q r x y z fa fb fc =
     let one = length-decimal-le i a p x fa in
     let two = length-decimal-le j b q y fb in
@@ -26,10 +26,10 @@ pub length_any_decimal : (n : ℕ) → length (decimal n) ≤ 64
 unfolding digits
 length_any_decimal n = let short = spelled_short 64 10 false n [] in omega arith
 
-pub length_any_values : (a b c : ℕ) → length (three_values a b c) ≤ 196
-unfolding three_values value
-length_any_values a b c =
-    let one = length_any_decimal a in
-    let two = length_any_decimal b in
-    let three = length_any_decimal c in
+pub length_any_values : (ns : List ℕ) → length (last_values ns) ≤ 65 * length ns + 1
+unfolding last_values value
+length_any_values [] = omega arith
+length_any_values (n ∷ ns) =
+    let one = length_any_decimal n in
+    let rest = length_any_values ns in
     simp length-append (omega arith)

@@ -5,6 +5,7 @@ use Rattle.std.specs.Prelude.{ℕ, List, [], ◌∷◌, ◌++◌, codes, decimal
 unfoldable pub value : ℕ → List ℕ
 value n = codes " " ++ decimal n
 
--- the last three values of a line, and its line feed
-unfoldable pub three_values : ℕ → ℕ → ℕ → List ℕ
-three_values a b c = value a ++ (value b ++ (value c ++ 10 ∷ []))
+-- the last values of a line, and its line feed
+unfoldable pub last_values : List ℕ → List ℕ
+last_values [] = 10 ∷ []
+last_values (n ∷ ns) = value n ++ last_values ns

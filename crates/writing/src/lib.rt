@@ -1,59 +1,90 @@
-// Pieces written one after another to the front of a lent list; here text, to bytes.
+// Pieces written one after another to the front of a lent list; here text, to a page of bytes.
 #![tactic(auto)]
 
-ghost use Rattle.std.specs.Prelude.{◌+◌, ◌<◌, ◌≤◌, [], ◌∷◌, length, decimal};
-ghost use Rattle.writing.specs.Fronts.{Wrote};
-ghost use Rattle.writing.specs.Values.{value, three_values};
+ghost use Rattle.std.specs.Prelude.{◌≡◌, ◌≤◌, length, decimal};
+ghost use Rattle.writing.specs.Values.{value, last_values};
 
-// Writes a text at a place of the page, and answers the place after it.
-pub fn put_text(page: &mut [u8], at: usize, text: &[u8]) -> usize
-    requires { at + length text.now ≤ length page.old }
-    ensures { Wrote page.old at text.now page.new result }
-{
-    let end = at + text.len();
-    page[at..end].copy_from_slice(text);
-    end
+// A lent list, and how much of it is written.
+#[derive(Drop)]
+pub struct Front<'a, T> {
+    list: &'a mut [T],
+    len: usize,
+    ghost within: { len ≤ length list.now },
 }
 
-// Writes one digit, and answers the place after it.
-fn put_digit(page: &mut [u8], at: usize, digit: u8) -> usize
-    requires room { at < length page.old }
-    requires digit { digit < 10 }
-    ensures { Wrote page.old at ((48 + digit) ∷ []) page.new result }
-{
-    page[at] = b'0' + digit;
-    at + 1
-}
+pub type Page<'a> = Front<'a, u8>;
 
-// Writes a number in decimal digits, the leading ones first, and answers the place after them.
-pub fn put_number(page: &mut [u8], at: usize, number: u64) -> usize
-    requires { at + length (decimal number) ≤ length page.old }
-    ensures { Wrote page.old at (decimal number) page.new result }
-{
-    let last = (number % 10) as u8;
-    if number < 10 {
-        return put_digit(page, at, last);
+impl<'a, T: Copy> Front<'a, T> {
+    ghost use Rattle.writing.specs.Fronts.{Fits, Added};
+
+    // Nothing is written yet.
+    pub fn new(list: &'a mut [T]) -> Front<'a, T>
+        ensures lent { result.list.ghost_name ≡ list.entry.ghost_name }
+        ensures list { result.list.now ≡ list.old }
+        ensures none { result.len ≡ 0 }
+    {
+        Front::at(list, 0)
     }
-    let next = put_number(page, at, number / 10);
-    put_digit(page, next, last)
+
+    // So much is written already.
+    pub fn at(list: &'a mut [T], len: usize) -> Front<'a, T>
+        requires { len ≤ length list.old }
+        ensures lent { result.list.ghost_name ≡ list.entry.ghost_name }
+        ensures list { result.list.now ≡ list.old }
+        ensures len { result.len ≡ len }
+    {
+        Front { list, len }
+    }
+
+    // How much is written.
+    pub fn len(&self) -> usize
+        ensures { result ≡ self.now.len }
+    {
+        self.len
+    }
+
+    // Writes a piece after what is written.
+    pub fn put(&mut self, piece: &[T])
+        requires { Fits self.old piece.now }
+        ensures { Added self.old piece.now self.new }
+    {
+        let Front { list, len } = self;
+        let end = *len + piece.len();
+        list[*len..end].copy_from_slice(piece);
+        *len = end;
+    }
 }
 
-// Writes a space and a number.
-fn put_value(page: &mut [u8], at: usize, number: u64) -> usize
-    requires { at + length (value number) ≤ length page.old }
-    ensures { Wrote page.old at (value number) page.new result }
-{
-    let at = put_text(page, at, b" ");
-    put_number(page, at, number)
-}
+// Kept: no contract says that `write!` of a Display value does not fail, and a page with room is always written.
+impl Front<'_, u8> {
+    ghost use Rattle.writing.specs.Fronts.{Fits, Added};
 
-// Writes the last three values of a line, and its line feed.
-pub fn put_three_values(page: &mut [u8], at: usize, first: u64, second: u64, third: u64) -> usize
-    requires { at + length (three_values first second third) ≤ length page.old }
-    ensures { Wrote page.old at (three_values first second third) page.new result }
-{
-    let at = put_value(page, at, first);
-    let at = put_value(page, at, second);
-    let at = put_value(page, at, third);
-    put_text(page, at, b"\n")
+    // Writes a number in decimal digits.
+    pub fn put_number(&mut self, number: u64)
+        requires { Fits self.old (decimal number) }
+        ensures { Added self.old (decimal number) self.new }
+    {
+        let mut digits = itoa::Buffer::new();
+        self.put(digits.format(number).as_bytes());
+    }
+
+    // Writes a space and a number.
+    fn put_value(&mut self, number: u64)
+        requires { Fits self.old (value number) }
+        ensures { Added self.old (value number) self.new }
+    {
+        self.put(b" ");
+        self.put_number(number);
+    }
+
+    // Writes the last values of a line, and its line feed.
+    pub fn put_last_values(&mut self, numbers: &[u64])
+        requires { Fits self.old (last_values numbers.now) }
+        ensures { Added self.old (last_values numbers.now) self.new }
+    {
+        for number in numbers {
+            self.put_value(*number);
+        }
+        self.put(b"\n");
+    }
 }

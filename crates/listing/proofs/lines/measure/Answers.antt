@@ -1,5 +1,5 @@
 -- One leg after another, until one is refused.
-use Rattle.std.proofs.Common.{◌≡◌, ℕ, ◌+◌, ◌<◌, ◌≤◌, List, [], ◌∷◌, ◌++◌, length, get_or, take, drop, set, sym, refl, ap, ◌∙◌, subst, arith}
+use Rattle.std.proofs.Common.{◌≡◌, ℕ, ◌+◌, ◌<◌, List, [], ◌∷◌, ◌++◌, length, take, sym, ap, ◌∙◌, subst, arith}
 use Rattle.std.proofs.lemmas.List.{take_more, take_more_set, take_all, length-take-le, length-set}
 use Rattle.std.proofs.lemmas.Result.{err_from_is_err_and}
 use Rattle.floor.specs.declared.Counts.{Counts}
@@ -7,9 +7,6 @@ use Rattle.listing.specs.declared.lines.Amount.{Amount}
 use Rattle.listing.specs.Lines.{first_refused, Measures, plus_amount, in_all}
 use Rattle.listing.proofs.Listings.{measures_more, in_all_more, fine_more, refused_here, Few, few_one, few_all}
 use Rattle.listing.proofs.lines.measure.Goals as goal
-
-pub loop-i-init : goal.loop-i-init
-loop-i-init c = (tt, refl, refl, refl)
 
 pub returns-in_err-amount : goal.returns-in_err-amount
 returns-in_err-amount c =

@@ -1,46 +1,42 @@
 -- The names, the legs, and all of them.
-use Rattle.std.proofs.Common.{◌≡◌, ℕ, ◌+◌, ◌≤◌, List, [], ◌∷◌, ◌++◌, length, codes, sym, ap, subst, arith}
-use Rattle.writing.specs.Fronts.{Wrote}
-use Rattle.writing.proofs.Fronts.{then, room_first, room_next}
+use Rattle.std.proofs.Common.{◌≡◌, ℕ, List, ◌++◌, codes, sym, ap}
+use Rattle.writing.specs.declared.Front.{Front}
+use Rattle.writing.specs.Fronts.{Fits, Added}
+use Rattle.writing.proofs.Fronts.{Left, all_left, first_fits, others_left, left_as}
 use Rattle.listing.specs.declared.lines.Amount.{Amount}
 use Rattle.listing.specs.Lines.{in_all, values, names_line, leg_lines, listing_text}
 use Rattle.listing.proofs.lines.put_listing.Goals as goal
 
--- the text with the total as it was handed over
-told : (items : List Amount) (total : Amount) → total ≡ in_all items → listing_text items ≡ names_line ++ (leg_lines 1 items ++ (codes "all" ++ values total))
-unfolding listing_text
-told items total e = ap (λ (a : Amount). names_line ++ (leg_lines 1 items ++ (codes "all" ++ values a))) (sym e)
+module _ (page : Front ℕ) (items : List Amount) (total : Amount) (room : Fits page (listing_text items)) (same : total ≡ in_all items) where
+  -- what is left at first, with the total as it was handed over
+  at_first : Left page (listing_text items) page (names_line ++ (leg_lines 1 items ++ (codes "all" ++ values total)))
+  unfolding listing_text
+  at_first = left_as _ _ _ _ _ (ap (λ (a : Amount). names_line ++ (leg_lines 1 items ++ (codes "all" ++ values a))) (sym same)) (all_left _ _ room)
 
-fits : (items : List Amount) (total : Amount) (room : ℕ) → total ≡ in_all items → length (listing_text items) ≤ room → 0 + length (names_line ++ (leg_lines 1 items ++ (codes "all" ++ values total))) ≤ room
-fits items total room e h = let same = ap length (told items total e) in omega arith
+  module _ (named : Front ℕ) (a : Added page names_line named) where
+    after_names : Left page (listing_text items) named (leg_lines 1 items ++ (codes "all" ++ values total))
+    after_names = others_left _ _ _ _ _ _ at_first a
 
-pub put_text-at-requires : goal.put_text-at-requires
+    module _ (lined : Front ℕ) (b : Added named (leg_lines 1 items) lined) where
+      after_legs : Left page (listing_text items) lined (codes "all" ++ values total)
+      after_legs = others_left _ _ _ _ _ _ after_names b
+
+pub put-requires : goal.put-requires
 unfolding names_line
-put_text-at-requires c = room_first _ _ names_line _ (fits c.args.amounts.now c.args.total _ c.requires.total c.requires.room)
+put-requires c = first_fits _ _ _ names_line _ (at_first _ c.args.amounts.now c.args.total c.requires.room c.requires.total)
 
-pub put_legs-at-requires : goal.put_legs-at-requires
+pub put_legs-requires : goal.put_legs-requires
 unfolding names_line
-put_legs-at-requires c = room_first _ _ (leg_lines 1 c.args.amounts.now) _ (room_next _ _ _ _ _ _ (fits c.args.amounts.now c.args.total _ c.requires.total c.requires.room) c.put_text-at.ensures)
+put_legs-requires c = first_fits _ _ _ _ _ (after_names _ _ c.args.total c.requires.room c.requires.total _ c.put.ensures)
 
-pub put_text-at-requires-2 : goal.put_text-at-requires-2
+pub put-requires-2 : goal.put-requires-2
 unfolding names_line
-put_text-at-requires-2 c =
-    room_first _ _ (codes "all") _
-    (room_next _ _ _ _ _ _ (room_next _ _ _ _ _ _ (fits c.args.amounts.now c.args.total _ c.requires.total c.requires.room) c.put_text-at.ensures) c.put_legs-at.ensures)
+put-requires-2 c = first_fits _ _ _ (codes "all") _ (after_legs _ _ c.args.total c.requires.room c.requires.total _ c.put.ensures _ c.put_legs.ensures)
 
 pub put_values-requires : goal.put_values-requires
 unfolding names_line
-put_values-requires c =
-    room_next _ _ (codes "all") (values c.args.total) _ _
-    (room_next _ _ _ _ _ _ (room_next _ _ _ _ _ _ (fits c.args.amounts.now c.args.total _ c.requires.total c.requires.room) c.put_text-at.ensures) c.put_legs-at.ensures)
-    c.put_text-at-2.ensures
+put_values-requires c = (others_left _ _ _ (codes "all") _ _ (after_legs _ _ _ c.requires.room c.requires.total _ c.put.ensures _ c.put_legs.ensures) c.put-2.ensures).fits
 
 pub returns : goal.returns
 unfolding names_line
-returns c =
-    let all = fits c.args.amounts.now c.args.total _ c.requires.total c.requires.room in
-    let legs = room_next _ _ names_line (leg_lines 1 c.args.amounts.now ++ (codes "all" ++ values c.args.total)) _ _ all c.put_text-at.ensures in
-    let last = room_next _ _ _ (codes "all" ++ values c.args.total) _ _ legs c.put_legs-at.ensures in
-    subst (λ (t : List ℕ). Wrote c.args.page.now 0 t c.put_values.new.page c.put_values.result) (sym (told c.args.amounts.now c.args.total c.requires.total))
-    (then _ _ names_line _ _ _ _ _ (omega arith) c.put_text-at.ensures
-    (then _ _ _ _ _ _ _ _ (omega arith) c.put_legs-at.ensures (then _ _ (codes "all") _ _ _ _ _ (omega arith) c.put_text-at-2.ensures c.put_values.ensures)))
+returns c = (others_left _ _ _ (codes "all") _ _ (after_legs _ _ _ c.requires.room c.requires.total _ c.put.ensures _ c.put_legs.ensures) c.put-2.ensures).rest _ c.put_values.ensures

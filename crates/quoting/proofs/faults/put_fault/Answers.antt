@@ -1,43 +1,46 @@
 -- The names, the number, who refuses, and where.
-use Rattle.std.proofs.Common.{◌≡◌, ℕ, ◌+◌, ◌≤◌, List, ◌++◌, length, decimal, refl, ap, subst, arith}
-use Rattle.writing.specs.Fronts.{Wrote}
-use Rattle.writing.specs.Values.{three_values}
-use Rattle.writing.proofs.Fronts.{then, room_first, room_next}
-use Rattle.quoting.specs.declared.faults.Fault.{Fault}
-use Rattle.quoting.specs.Faults.{origin_text, fault_names, fault_text}
+use Rattle.std.proofs.Common.{◌≡◌, ℕ, List, [], ◌∷◌, ◌++◌, codes, decimal, sym, refl, ap, ◌∙◌}
+use Rattle.writing.specs.declared.Front.{Front}
+use Rattle.writing.specs.Fronts.{Fits, Added}
+use Rattle.writing.specs.Values.{last_values}
+use Rattle.writing.proofs.Fronts.{Left, all_left, first_fits, others_left, left_as}
+use Rattle.report.specs.declared.Fault.{Fault}
+use Rattle.report.specs.Texts.{origin_name}
+use Rattle.quoting.specs.Faults.{fault_line}
+use Rattle.quoting.proofs.FaultLines.{names, in_pieces}
 use Rattle.quoting.proofs.faults.put_fault.Goals as goal
 
-told : (f : Fault) (from : List ℕ) → from ≡ origin_text f.from → fault_names ++ (decimal f.number ++ (from ++ three_values f.line f.field f.leg)) ≡ fault_text f
-unfolding fault_text
-told f from e = ap (λ (t : List ℕ). fault_names ++ (decimal f.number ++ (t ++ three_values f.line f.field f.leg))) e
+module _ (page : Front ℕ) (f : Fault) (room : Fits page (fault_line f)) (from : List ℕ) (same : from ≡ origin_name f.from) where
+  -- what is left at first, with the word for who refuses as it was answered
+  at_first : Left page (fault_line f) page (names ++ (decimal f.number ++ (codes " " ++ (from ++ last_values (f.line ∷ f.field ∷ f.leg ∷ [])))))
+  at_first = left_as _ _ _ _ _ (in_pieces f ∙ ap (λ (t : List ℕ). names ++ (decimal f.number ++ (codes " " ++ (t ++ last_values (f.line ∷ f.field ∷ f.leg ∷ []))))) (sym same)) (all_left _ _ room)
 
-fits : (f : Fault) (from : List ℕ) (room : ℕ) → from ≡ origin_text f.from → length (fault_text f) ≤ room → 0 + length (fault_names ++ (decimal f.number ++ (from ++ three_values f.line f.field f.leg))) ≤ room
-fits f from room e h = let same = ap length (told f from e) in omega arith
+  module _ (named : Front ℕ) (a : Added page names named) where
+    after_names : Left page (fault_line f) named (decimal f.number ++ (codes " " ++ (from ++ last_values (f.line ∷ f.field ∷ f.leg ∷ []))))
+    after_names = others_left _ _ _ _ _ _ at_first a
 
-pub put_text-at-requires : goal.put_text-at-requires
-put_text-at-requires c = room_first _ _ fault_names _ (fits c.args.fault (origin_text c.args.fault.from) _ refl c.requires)
+    module _ (numbered : Front ℕ) (b : Added named (decimal f.number) numbered) where
+      after_number : Left page (fault_line f) numbered (codes " " ++ (from ++ last_values (f.line ∷ f.field ∷ f.leg ∷ [])))
+      after_number = others_left _ _ _ _ _ _ after_names b
 
-pub put_number-at-requires : goal.put_number-at-requires
-put_number-at-requires c =
-    room_first _ _ (decimal c.args.fault.number) _ (room_next _ _ fault_names _ _ _ (fits c.args.fault (origin_text c.args.fault.from) _ refl c.requires) c.put_text-at.ensures)
+      module _ (parted : Front ℕ) (d : Added numbered (codes " ") parted) where
+        after_space : Left page (fault_line f) parted (from ++ last_values (f.line ∷ f.field ∷ f.leg ∷ []))
+        after_space = others_left _ _ _ _ _ _ after_number d
 
-pub put_text-at-requires-2 : goal.put_text-at-requires-2
-put_text-at-requires-2 c =
-    room_first _ _ c.origin_text.result.now _
-    (room_next _ _ (decimal c.args.fault.number) _ _ _ (room_next _ _ fault_names _ _ _ (fits c.args.fault c.origin_text.result.now _ c.origin_text.ensures c.requires) c.put_text-at.ensures) c.put_number-at.ensures)
+pub put-requires : goal.put-requires
+put-requires c = first_fits _ _ _ names _ (at_first _ c.args.fault c.requires (origin_name c.args.fault.from) refl)
 
-pub put_three_values-requires : goal.put_three_values-requires
-put_three_values-requires c =
-    room_next _ _ c.origin_text.result.now _ _ _
-    (room_next _ _ (decimal c.args.fault.number) _ _ _ (room_next _ _ fault_names _ _ _ (fits c.args.fault c.origin_text.result.now _ c.origin_text.ensures c.requires) c.put_text-at.ensures) c.put_number-at.ensures)
-    c.put_text-at-2.ensures
+pub put_number-requires : goal.put_number-requires
+put_number-requires c = first_fits _ _ _ _ _ (after_names _ c.args.fault c.requires (origin_name c.args.fault.from) refl _ c.put.ensures)
+
+pub put-requires-2 : goal.put-requires-2
+put-requires-2 c = first_fits _ _ _ (codes " ") _ (after_number _ c.args.fault c.requires (origin_name c.args.fault.from) refl _ c.put.ensures _ c.put_number.ensures)
+
+pub put-requires-3 : goal.put-requires-3
+put-requires-3 c = first_fits _ _ _ _ _ (after_space _ c.args.fault c.requires _ (c.as_bytes.ensures.value ∙ c.name.ensures) _ c.put.ensures _ c.put_number.ensures _ c.put-2.ensures)
+
+pub put_last_values-requires : goal.put_last_values-requires
+put_last_values-requires c = (others_left _ _ _ _ _ _ (after_space _ c.args.fault c.requires _ (c.as_bytes.ensures.value ∙ c.name.ensures) _ c.put.ensures _ c.put_number.ensures _ c.put-2.ensures) c.put-3.ensures).fits
 
 pub returns : goal.returns
-returns c =
-    let from = c.origin_text.result.now in
-    let all = fits c.args.fault from _ c.origin_text.ensures c.requires in
-    let second = room_next _ _ fault_names _ _ _ all c.put_text-at.ensures in
-    let third = room_next _ _ (decimal c.args.fault.number) _ _ _ second c.put_number-at.ensures in
-    subst (λ (t : List ℕ). Wrote c.args.page.now 0 t c.put_three_values.new.page c.put_three_values.result) (told c.args.fault from c.origin_text.ensures)
-    (then _ _ fault_names _ _ _ _ _ (omega arith) c.put_text-at.ensures
-    (then _ _ _ _ _ _ _ _ (omega arith) c.put_number-at.ensures (then _ _ _ _ _ _ _ _ (omega arith) c.put_text-at-2.ensures c.put_three_values.ensures)))
+returns c = (others_left _ _ _ _ _ _ (after_space _ c.args.fault c.requires _ (c.as_bytes.ensures.value ∙ c.name.ensures) _ c.put.ensures _ c.put_number.ensures _ c.put-2.ensures) c.put-3.ensures).rest _ c.put_last_values.ensures

@@ -1,5 +1,5 @@
 -- Each turn opens one cell more.
-use Rattle.std.proofs.Common.{◌≡◌, List, length, get_or, take, sym, ap, ◌∙◌}
+use Rattle.std.proofs.Common.{List, get_or, sym, ap, ◌∙◌}
 use Rattle.std.proofs.lemmas.List.{take_all}
 use Rattle.floor.specs.Plans.{Plan}
 use Rattle.source.specs.Drawing.{open_one, opened}

@@ -1,5 +1,5 @@
 -- The source is new, so its floor is that of the entries alone.
-use Rattle.std.proofs.Common.{◌≡◌, ℕ, refl, ap, ◌∙◌}
+use Rattle.std.proofs.Common.{refl, ap, ◌∙◌}
 use Rattle.floor.specs.Plans.{Plan, closed}
 use Rattle.source.specs.Drawing.{opened}
 use Rattle.quoting.specs.Floors.{cells_of}

@@ -1,5 +1,5 @@
 -- A fresh planner has no cell open, and then those of the entries.
-use Rattle.std.proofs.Common.{◌≡◌, ap, ◌∙◌}
+use Rattle.std.proofs.Common.{ap, ◌∙◌}
 use Rattle.floor.specs.Plans.{Plan}
 use Rattle.source.specs.Drawing.{opened}
 use Rattle.quoting.specs.Floors.{cells_of}

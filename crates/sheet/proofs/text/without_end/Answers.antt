@@ -1,13 +1,11 @@
--- The last byte decides: the text is taken up to it, or whole.
-use Rattle.std.proofs.Common.{arith, ltb-true}
-use Rattle.sheet.proofs.Splits.{last_feed, last_other, nothing_ended}
+-- The line feed at the end is stripped, or none is there.
+use Rattle.std.proofs.Common.{[], ◌∷◌, ap, ◌∙◌}
+use Rattle.std.proofs.lemmas.Bool.Decides.{Decides-eqb}
+use Rattle.std.proofs.lemmas.Slice.Eq.{strip_suffix_is}
+use Rattle.sheet.proofs.Splits.{front_of}
 use Rattle.sheet.proofs.text.without_end.Goals as goal
 
-pub returns-in-10 : goal.returns-in-10
-returns-in-10 c = last_feed c.args.text.now (omega arith)
-
-pub returns-in_default : goal.returns-in_default
-returns-in_default c = nothing_ended c.args.text.now (omega (arith, ltb-true))
-
-pub returns-in_default-2 : goal.returns-in_default-2
-returns-in_default-2 c = last_other c.args.text.now (λ is. omega arith)
+pub returns : goal.returns
+returns c =
+    ap (λ b. b.now) c.unwrap_or.ensures
+    ∙ front_of c.args.text c.strip_suffix.result (strip_suffix_is Decides-eqb c.args.text.now (10 ∷ []) c.strip_suffix.result c.strip_suffix.ensures.cases)
