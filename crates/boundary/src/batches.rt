@@ -1,12 +1,13 @@
 // A batch: queries put to a fresh planner one after another, each reply written at the query's place.
 ghost use Rattle.std.specs.Prelude.{◌≡◌, ◌≤◌, length, drop, OnErr, OnOk};
 ghost use Rattle.floor.specs.Plans.{closed};
+ghost use Rattle.search.specs.Work.{SameLists};
 ghost use Rattle.lengths.specs.Questions.{places as places_of};
 ghost use Rattle.boundary.specs.Numbers.{action_in};
 ghost use Rattle.boundary.specs.Batches.{after_by, RightBy, AllRight};
 
 use crate::numbers::{Action, Query, Reply};
-use planner::{Entry, Planner};
+use planner::{Entry, Planner, Work};
 use rate::Rate;
 use source::JumpSource;
 use std::alloc::{AllocError, Global};
@@ -15,19 +16,17 @@ use std::alloc::{AllocError, Global};
 fn reply_to<S: JumpSource, R: Rate>(
     planner: &mut Planner<S, R>,
     query: Query,
-    entries: &mut [Entry],
-    waiting: &mut [u32],
+    work: &mut Work<'_>,
 ) -> Reply
-    ensures right { RightBy (R.Rate.order planner.old.rate) (length entries.old) (length waiting.old) (S.JumpSource.meaning planner.old.source) query (action_in query) result }
+    ensures right { RightBy (R.Rate.order planner.old.rate) (length work.old.entries.now) (length work.old.waiting.now) (S.JumpSource.meaning planner.old.source) query (action_in query) result }
+    ensures lists { SameLists work.old work.new }
     ensures plan { S.JumpSource.meaning planner.new.source ≡ after_by (S.JumpSource.meaning planner.old.source) query (action_in query) }
     ensures rate { planner.new.rate ≡ planner.old.rate }
 {
     match query.action() {
         Action::Close => Reply::to_change(planner.close(query.cell())),
         Action::Open => Reply::to_change(planner.open(query.cell())),
-        Action::Measure => {
-            Reply::to_length(planner.length(query.cell(), query.target(), entries, waiting))
-        }
+        Action::Measure => Reply::to_length(planner.length(query.cell(), query.target(), work)),
     }
 }
 
@@ -36,15 +35,14 @@ fn reply_all<S: JumpSource, R: Rate>(
     planner: &mut Planner<S, R>,
     queries: &[Query],
     replies: &mut [Reply],
-    entries: &mut [Entry],
-    waiting: &mut [u32],
+    work: &mut Work<'_>,
 )
     requires { length queries.now ≤ length replies.old }
-    ensures right { AllRight (R.Rate.order planner.old.rate) (length entries.old) (length waiting.old) (S.JumpSource.meaning planner.old.source) queries.now replies.new }
+    ensures right { AllRight (R.Rate.order planner.old.rate) (length work.old.entries.now) (length work.old.waiting.now) (S.JumpSource.meaning planner.old.source) queries.now replies.new }
     ensures rest { drop (length queries.now) replies.new ≡ drop (length queries.now) replies.old }
 {
-    for i in 0..queries.len() {
-        replies[i] = reply_to(planner, queries[i], entries, waiting);
+    for (i, query) in queries.iter().enumerate() {
+        replies[i] = reply_to(planner, *query, work);
     }
 }
 
@@ -61,17 +59,14 @@ pub fn run<S: JumpSource, R: Rate>(
     ensures rest { drop (length queries.now) replies.new ≡ drop (length queries.now) replies.old }
     ensures same { OnErr result (replies.new ≡ replies.old) }
 {
-    let (rows, cols) = source.size();
-    let places = 8 * (rows * cols);
+    let places = 8 * source.size().cells();
     let mut entries = vec![in heap; Entry::BLANK; places]?;
     let mut waiting = vec![in heap; 0u32; places]?;
     let mut planner = Planner::new(&mut *source, rate);
-    reply_all(
-        &mut planner,
-        queries,
-        replies,
-        entries.as_mut_slice(),
-        waiting.as_mut_slice(),
-    );
+    let mut work = Work {
+        entries: entries.as_mut_slice(),
+        waiting: waiting.as_mut_slice(),
+    };
+    reply_all(&mut planner, queries, replies, &mut work);
     Ok(())
 }

@@ -9,9 +9,29 @@ use crate::numbers::{Query, Reply};
 use octets::ByteSource;
 use packed::PackedSource;
 use rates::exact::ExactRate;
+use source::OnMemory;
 use std::alloc::Global;
 use table::TableSource;
 
+// The batch, on a source of this kind.
+fn answer_on<'a, S: OnMemory<'a> + Drop>(
+    heap: Global,
+    memory: &'a mut [S::Word],
+    rows: usize,
+    cols: usize,
+    queries: &[Query],
+    replies: &mut [Reply],
+) -> bool
+    ensures { Done exact rows cols queries.now replies.old replies.new result }
+{
+    if S::check(rows, cols, memory.len()).is_err() || replies.len() < queries.len() {
+        return false;
+    }
+    let mut source = S::make(memory, rows, cols);
+    run(heap, &mut source, &ExactRate, queries, replies).is_ok()
+}
+
+// Kept, here and below: C lends memory, rows and columns as they are.
 #[unsafe(no_mangle)]
 pub extern "C" fn planner_on_bytes(
     heap: Global,
@@ -23,11 +43,7 @@ pub extern "C" fn planner_on_bytes(
 ) -> bool
     ensures { Done exact rows cols queries.now replies.old replies.new result }
 {
-    if ByteSource::check(rows, cols, memory.len()).is_err() || replies.len() < queries.len() {
-        return false;
-    }
-    let mut source = ByteSource::make(memory, rows, cols);
-    run(heap, &mut source, &ExactRate, queries, replies).is_ok()
+    answer_on::<ByteSource>(heap, memory, rows, cols, queries, replies)
 }
 
 #[unsafe(no_mangle)]
@@ -41,11 +57,7 @@ pub extern "C" fn planner_on_words(
 ) -> bool
     ensures { Done exact rows cols queries.now replies.old replies.new result }
 {
-    if PackedSource::check(rows, cols, memory.len()).is_err() || replies.len() < queries.len() {
-        return false;
-    }
-    let mut source = PackedSource::make(memory, rows, cols);
-    run(heap, &mut source, &ExactRate, queries, replies).is_ok()
+    answer_on::<PackedSource>(heap, memory, rows, cols, queries, replies)
 }
 
 #[unsafe(no_mangle)]
@@ -59,9 +71,5 @@ pub extern "C" fn planner_on_table(
 ) -> bool
     ensures { Done exact rows cols queries.now replies.old replies.new result }
 {
-    if TableSource::check(rows, cols, memory.len()).is_err() || replies.len() < queries.len() {
-        return false;
-    }
-    let mut source = TableSource::make(memory, rows, cols);
-    run(heap, &mut source, &ExactRate, queries, replies).is_ok()
+    answer_on::<TableSource>(heap, memory, rows, cols, queries, replies)
 }

@@ -6,6 +6,7 @@ use floor::Cell;
 use lengths::{Measured, Refusal};
 
 // What is asked: to close a cell (0), to open it (1), or for the length from it to a target (any other number).
+// Kept: C has numbers for what is asked and for refusals.
 #[repr(C)]
 #[derive(Clone, Copy)]
 pub struct Query {
@@ -89,7 +90,7 @@ impl Reply {
     {
         match answer {
             Ok(changed) => Reply {
-                changed: if changed { 1 } else { 0 },
+                changed: u32::from(changed),
                 ..Reply::EMPTY
             },
             Err(refusal) => Reply::refused(refusal),

@@ -1,13 +1,15 @@
 // Puts what is asked of a floor to a planner over any source, and compares its answers with the plain ones.
 use crate::courses::walk;
 use crate::exam::{Ask, Mark, Moment, Paper, Reply, View};
-use crate::flood::Price;
 use crate::grid::Grid;
+use crate::prices::{Price, Priced};
+use crate::steps::both;
 use crate::tally::Tally;
+use crate::words::Task;
 use floor::{Cell, Counts};
-use lengths::Drawn;
+use lengths::{Drawn, Refusal};
 use listing::millimetres::millimetres;
-use planner::{Entry, Planner};
+use planner::{Entry, Planner, Work};
 use rate::Rate;
 use source::{JumpSource, labels};
 use std::alloc::{AllocError, Global};
@@ -23,74 +25,80 @@ const NO_COUNTS: Counts = Counts {
 // Sides of cells for which lengths are told in millimetres.
 const SIDES: [u32; 3] = [1, 1_000, 1_999];
 
-// The lists that a planner is lent.
+// How long the lists are that a planner is lent.
+#[derive(Clone, Copy)]
+pub struct Room {
+    pub entries: usize,
+    pub waiting: usize,
+    pub corners: usize,
+    pub legs: usize,
+}
+
+// The work lists that a planner is lent.
+#[derive(Drop)]
+pub struct Desk {
+    entries: Vec<Entry>,
+    waiting: Vec<u32>,
+}
+
+impl Desk {
+    pub fn lend(&mut self) -> Work<'_> {
+        Work {
+            entries: self.entries.as_mut_slice(),
+            waiting: self.waiting.as_mut_slice(),
+        }
+    }
+}
+
+// All lists that a planner is lent.
 #[derive(Drop)]
 pub struct Lists {
-    pub entries: Vec<Entry>,
-    pub waiting: Vec<u32>,
+    pub desk: Desk,
     pub corners: Vec<Cell>,
     pub legs: Vec<Counts>,
 }
 
 impl Lists {
-    pub fn new(
-        heap: Global,
-        entries: usize,
-        waiting: usize,
-        corners: usize,
-        legs: usize,
-    ) -> Result<Lists, AllocError> {
+    pub fn new(heap: Global, room: Room) -> Result<Lists, AllocError> {
         Ok(Lists {
-            entries: vec![in heap; Entry::BLANK; entries]?,
-            waiting: vec![in heap; 0u32; waiting]?,
-            corners: vec![in heap; NO_CELL; corners]?,
-            legs: vec![in heap; NO_COUNTS; legs]?,
+            desk: Desk {
+                entries: vec![in heap; Entry::BLANK; room.entries]?,
+                waiting: vec![in heap; 0u32; room.waiting]?,
+            },
+            corners: vec![in heap; NO_CELL; room.corners]?,
+            legs: vec![in heap; NO_COUNTS; room.legs]?,
         })
     }
 
     // Just as long as they have to be.
     fn full(heap: Global, cells: usize) -> Result<Lists, AllocError> {
         let places = cells.saturating_mul(8);
-        Lists::new(heap, places, places, cells, 64)
+        let room = Room {
+            entries: places,
+            waiting: places,
+            corners: cells,
+            legs: 64,
+        };
+        Lists::new(heap, room)
     }
 
     fn finished(&self) -> usize {
-        let mut count = 0usize;
-        for entry in self.entries.iter() {
-            if entry.is_finished() {
-                count = count.saturating_add(1);
-            }
-        }
-        count
-    }
-
-    fn clear_corners(&mut self) {
-        for corner in self.corners.iter_mut() {
-            *corner = NO_CELL;
-        }
-    }
-
-    fn clear_legs(&mut self) {
-        for leg in self.legs.iter_mut() {
-            *leg = NO_COUNTS;
-        }
+        self.desk
+            .entries
+            .iter()
+            .filter(|entry| entry.is_finished())
+            .count()
     }
 }
 
-impl Reply {
-    fn costs(self, price: Price, counts: Counts) -> bool {
-        match self {
-            Reply::Cheapest(cheapest) => price.cost(cheapest) == price.cost(counts),
-            Reply::Refused(_) => false,
-        }
-    }
+// Whether the cheapest counts cost as much as these.
+fn costs(reply: Reply, price: Price, counts: Counts) -> bool {
+    reply.is_ok_and(|cheapest| price.cost(cheapest) == price.cost(counts))
+}
 
-    fn refuses(self, number: u8) -> bool {
-        match self {
-            Reply::Cheapest(_) => false,
-            Reply::Refused(refusal) => refusal == number,
-        }
-    }
+// Kept: refusals are compared by their numbers, here and in the tables of edges, since it is the numbers that a user is told: a rule of the project.
+fn refuses(reply: Reply, number: u8) -> bool {
+    reply.err().map(Refusal::number) == Some(number)
 }
 
 fn put_marks<S: JumpSource, R: Rate>(
@@ -104,14 +112,14 @@ fn put_marks<S: JumpSource, R: Rate>(
         } else {
             planner.close(mark.cell)
         };
-        tally.marks.note(match answer {
-            Ok(changed) => mark.changes == Some(changed),
-            Err(refusal) => mark.changes.is_none() && refusal.number() == 1,
-        });
+        tally
+            .marks
+            .note(answer.map_err(Refusal::number) == mark.changes.ok_or(1));
     }
 }
 
 // A label holds the steps; one of a dead jump has 32,768 added.
+// Kept: a jump is a pair of steps and a live flag, the form in which every source answers it.
 fn label_of(jump: (u16, bool)) -> u16 {
     if jump.1 {
         jump.0
@@ -135,28 +143,24 @@ fn put_view<S: JumpSource>(source: &S, view: &View, tally: &mut Tally) {
 fn covers(side: u32, counts: Counts, figure: u64) -> bool {
     let straight = u128::from(side) * u128::from(counts.straight);
     let diagonal = u128::from(side) * u128::from(counts.diagonal);
-    match u128::from(figure).checked_sub(straight) {
-        Some(rest) => rest.saturating_mul(rest)
-            >= diagonal.saturating_mul(diagonal).saturating_mul(2),
-        None => false,
-    }
+    let least = diagonal.saturating_mul(diagonal).saturating_mul(2);
+    u128::from(figure)
+        .checked_sub(straight)
+        .is_some_and(|rest| rest.saturating_mul(rest) >= least)
 }
 
 // Whether no fewer millimetres would cover it.
 fn is_least(side: u32, counts: Counts, figure: u64) -> bool {
-    let shorter = match figure.checked_sub(1) {
-        Some(less) => covers(side, counts, less),
-        None => false,
-    };
-    covers(side, counts, figure) && !shorter
+    let shorter = figure.checked_sub(1);
+    covers(side, counts, figure) && !shorter.is_some_and(|less| covers(side, counts, less))
 }
 
 fn put_counts(counts: Counts, tally: &mut Tally) {
     for side in SIDES {
-        tally.figures.note(match millimetres(side, counts) {
-            Ok(figure) => is_least(side, counts, figure),
-            Err(_) => false,
-        });
+        let figure = millimetres(side, counts);
+        tally
+            .figures
+            .note(figure.is_ok_and(|figure| is_least(side, counts, figure)));
     }
 }
 
@@ -167,29 +171,19 @@ fn put_length<S: JumpSource, R: Rate>(
     lists: &mut Lists,
     tally: &mut Tally,
 ) {
-    let answer = planner.length(
-        ask.start,
-        ask.target,
-        lists.entries.as_mut_slice(),
-        lists.waiting.as_mut_slice(),
-    );
+    let answer = planner.length(ask.start, ask.target, &mut lists.desk.lend());
     match answer {
         Ok(measured) => {
-            tally.lengths.note(ask.reply.costs(price, measured.counts));
+            tally.lengths.note(costs(ask.reply, price, measured.counts));
             tally.finished.note(lists.finished() == measured.finished);
             put_counts(measured.counts, tally);
         }
-        Err(refusal) => tally.lengths.note(ask.reply.refuses(refusal.number())),
+        Err(refusal) => tally.lengths.note(refuses(ask.reply, refusal.number())),
     }
 }
 
 fn untouched(cells: &[Cell]) -> bool {
-    for cell in cells {
-        if *cell != NO_CELL {
-            return false;
-        }
-    }
-    true
+    cells.iter().all(|cell| *cell == NO_CELL)
 }
 
 // Whether the corners written are those of a legal route with the counts answered, and nothing past them was written.
@@ -210,51 +204,44 @@ fn put_route<S: JumpSource, R: Rate>(
     price: Price,
     lists: &mut Lists,
 ) -> bool {
-    lists.clear_corners();
+    lists.corners.as_mut_slice().fill(NO_CELL);
     let answer = planner.route(
         ask.start,
         ask.target,
-        lists.entries.as_mut_slice(),
-        lists.waiting.as_mut_slice(),
+        &mut lists.desk.lend(),
         lists.corners.as_mut_slice(),
     );
     let corners = lists.corners.as_slice();
     match answer {
         Ok(drawn) => {
-            ask.reply.costs(price, drawn.measured.counts) && drawn_well(grid, ask, drawn, corners)
+            costs(ask.reply, price, drawn.measured.counts) && drawn_well(grid, ask, drawn, corners)
         }
-        Err(refusal) => ask.reply.refuses(refusal.number()) && untouched(corners),
+        Err(refusal) => refuses(ask.reply, refusal.number()) && untouched(corners),
     }
 }
 
-// The leg that is refused first, counted from 1, and its number.
+// The leg that is refused first, counted from 1, and the number of its refusal.
 fn first_refused(legs: &[Ask]) -> Option<(usize, u8)> {
-    for (leg, ask) in legs.iter().enumerate() {
-        if let Reply::Refused(number) = ask.reply {
-            return Some((leg.saturating_add(1), number));
-        }
-    }
-    None
+    (1usize..).zip(legs).find_map(|(leg, ask)| ask
+        .reply
+        .err()
+        .map(|refusal| (leg, refusal.number())))
 }
 
-// The sum of the legs written, if each costs what it should; what lies past them was not written.
+// The sum of the legs measured, if each costs what it should; what lies past them was not written.
 fn summed(price: Price, legs: &[Ask], written: &[Counts], measured: usize) -> Option<Counts> {
-    let mut straight = 0u32;
-    let mut diagonal = 0u32;
-    for (leg, counts) in written.iter().enumerate() {
-        if leg >= measured {
-            if *counts != NO_COUNTS {
-                return None;
-            }
-        } else {
-            if !legs.get(leg)?.reply.costs(price, *counts) {
-                return None;
-            }
-            straight = straight.checked_add(counts.straight)?;
-            diagonal = diagonal.checked_add(counts.diagonal)?;
-        }
+    let (told, rest) = written.split_at_checked(measured)?;
+    let (asked, _) = legs.split_at_checked(measured)?;
+    let right = asked
+        .iter()
+        .zip(told)
+        .all(|(ask, counts)| costs(ask.reply, price, *counts));
+    if right && rest.iter().all(|counts| *counts == NO_COUNTS) {
+        told.iter()
+            .try_fold(Counts::NONE, |sum, counts| both(sum, *counts))
+    } else {
+        None
     }
-    Some(Counts { straight, diagonal })
 }
 
 fn put_loop<S: JumpSource, R: Rate>(
@@ -262,11 +249,10 @@ fn put_loop<S: JumpSource, R: Rate>(
     paper: &Paper,
     lists: &mut Lists,
 ) -> bool {
-    lists.clear_legs();
+    lists.legs.as_mut_slice().fill(NO_COUNTS);
     let answer = planner.tour(
         paper.stations.as_slice(),
-        lists.entries.as_mut_slice(),
-        lists.waiting.as_mut_slice(),
+        &mut lists.desk.lend(),
         lists.legs.as_mut_slice(),
     );
     let legs = paper.legs.as_slice();
@@ -301,26 +287,32 @@ fn put_paper<S: JumpSource, R: Rate>(
 }
 
 // Takes a fresh planner through the moments of a floor.
-pub fn put_all<S: JumpSource + Drop, R: Rate + Drop>(
-    heap: Global,
-    source: S,
-    rate: R,
-    price: Price,
-    moments: &[Moment],
-    tally: &mut Tally,
-) -> Result<(), AllocError> {
-    let mut planner = Planner::new(source, rate);
-    for moment in moments {
-        let mut lists = Lists::full(heap, moment.grid.cells())?;
-        put_marks(&mut planner, moment.marks.as_slice(), tally);
-        for view in moment.views.iter() {
-            put_view(&planner.source, view, tally);
+#[derive(Drop)]
+pub struct Asking<'a, R: Priced> {
+    pub heap: Global,
+    pub rate: R,
+    pub moments: &'a [Moment],
+    pub tally: &'a mut Tally,
+}
+
+impl<R: Priced> Task for Asking<'_, R> {
+    fn put<S: JumpSource + Drop>(self, source: S) -> Result<(), AllocError> {
+        let Asking {
+            heap,
+            rate,
+            moments,
+            tally,
+        } = self;
+        let mut planner = Planner::new(source, rate);
+        for moment in moments {
+            let mut lists = Lists::full(heap, moment.grid.size.cells())?;
+            put_marks(&mut planner, moment.marks.as_slice(), tally);
+            for view in moment.views.iter() {
+                put_view(&planner.source, view, tally);
+            }
+            let paper = moment.paper(R::PRICE);
+            put_paper(&planner, &moment.grid, paper, &mut lists, tally);
         }
-        let paper = match price {
-            Price::Exact => &moment.exact,
-            Price::Counter => &moment.counter,
-        };
-        put_paper(&planner, &moment.grid, paper, &mut lists, tally);
+        Ok(())
     }
-    Ok(())
 }

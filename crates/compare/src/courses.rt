@@ -1,5 +1,6 @@
 // Routes by their corners, walked step by step.
 use crate::grid::Grid;
+use crate::steps::{both, steps_on};
 use floor::{Cell, Counts};
 use std::cmp::Ordering;
 
@@ -26,26 +27,7 @@ fn line_between(from: Cell, to: Cell) -> Option<(usize, usize)> {
 
 // Where so many legal steps lead.
 fn stride(grid: &Grid, from: Cell, heading: usize, steps: usize) -> Option<Cell> {
-    let mut at = from;
-    for _ in 0..steps {
-        at = grid.step(at, heading)?;
-    }
-    Some(at)
-}
-
-fn added(counts: Counts, heading: usize, steps: usize) -> Option<Counts> {
-    let steps = u32::try_from(steps).ok()?;
-    if heading % 2 == 0 {
-        Some(Counts {
-            straight: counts.straight.checked_add(steps)?,
-            diagonal: counts.diagonal,
-        })
-    } else {
-        Some(Counts {
-            straight: counts.straight,
-            diagonal: counts.diagonal.checked_add(steps)?,
-        })
-    }
+    (0..steps).try_fold(from, |at, _| grid.step(at, heading))
 }
 
 // The counts of the route with these corners, if it is legal and turns at each corner between its ends.
@@ -54,19 +36,16 @@ pub fn walk(grid: &Grid, corners: &[Cell]) -> Option<Counts> {
         return None;
     };
     let mut at = *first;
-    let mut before = 8;
-    let mut counts = Counts {
-        straight: 0,
-        diagonal: 0,
-    };
+    let mut before = None;
+    let mut counts = Counts::NONE;
     for corner in rest {
         let (heading, steps) = line_between(at, *corner)?;
-        if heading == before {
+        if before == Some(heading) {
             return None;
         }
         at = stride(grid, at, heading, steps)?;
-        counts = added(counts, heading, steps)?;
-        before = heading;
+        counts = both(counts, steps_on(heading, u32::try_from(steps).ok()?))?;
+        before = Some(heading);
     }
-    if grid.is_open(at) { Some(counts) } else { None }
+    grid.is_open(at).then_some(counts)
 }

@@ -1,6 +1,7 @@
 // Pseudo-random numbers, the same at each run with one seed.
 ghost use Rattle.std.specs.Prelude.{◌<◌, ◌≤◌};
 
+use crate::extent::Extent;
 use floor::Cell;
 
 #[derive(Drop)]
@@ -37,9 +38,9 @@ impl Dice {
     }
 
     // A cell of a floor of this size.
-    pub fn cell(&mut self, rows: usize, cols: usize) -> Cell {
-        let row = self.roll(rows);
-        let col = self.roll(cols);
+    pub fn cell(&mut self, size: Extent) -> Cell {
+        let row = self.roll(size.rows);
+        let col = self.roll(size.cols);
         Cell { row, col }
     }
 }

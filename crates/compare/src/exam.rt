@@ -1,9 +1,12 @@
 // What is asked about a floor at one moment, with the plain answers.
 use crate::dice::Dice;
-use crate::flood::{Field, Price, flood};
+use crate::flood::{Field, flood};
 use crate::grid::Grid;
+use crate::prices::Price;
 use floor::{Cell, Counts};
+use lengths::Refusal;
 use std::alloc::{AllocError, Global};
+use std::array;
 
 // Of a floor with more cells only a sample is looked at.
 const FEW_CELLS: usize = 700;
@@ -29,12 +32,8 @@ pub struct View {
     pub jumps: [(u16, bool); HEADINGS],
 }
 
-// Counts of a cheapest route, or the number of the first question that is answered no.
-#[derive(Clone, Copy)]
-pub enum Reply {
-    Cheapest(Counts),
-    Refused(u8),
-}
+// Counts of a cheapest route, or the first question that is answered no.
+pub type Reply = Result<Counts, Refusal>;
 
 #[derive(Clone, Copy)]
 pub struct Ask {
@@ -62,49 +61,49 @@ pub struct Moment {
     pub counter: Paper,
 }
 
-fn look_from(grid: &Grid, cell: Cell) -> View {
-    let mut jumps = [(0, false); HEADINGS];
-    for heading in 0..HEADINGS {
-        jumps[heading] = grid.jump(cell, heading);
+impl Moment {
+    pub fn paper(&self, price: Price) -> &Paper {
+        match price {
+            Price::Exact => &self.exact,
+            Price::Counter => &self.counter,
+        }
     }
+}
+
+fn look_from(grid: &Grid, cell: Cell) -> View {
     View {
         cell,
         open: grid.is_open(cell),
-        jumps,
+        jumps: array::from_fn(|heading| grid.jump(cell, heading)),
     }
 }
 
 // Every cell and those just outside, or some of them if they are many.
 fn views(heap: Global, grid: &Grid, dice: &mut Dice) -> Result<Vec<View>, AllocError> {
-    let rows = grid.rows.saturating_add(1);
-    let cols = grid.cols.saturating_add(1);
-    let mut all = Vec::new(heap);
-    if grid.cells() > FEW_CELLS {
-        for _ in 0..SAMPLE {
-            all.push(look_from(grid, dice.cell(rows, cols)))?;
-        }
-        return Ok(all);
+    let size = grid.size.widened();
+    if grid.size.cells() > FEW_CELLS {
+        (0..SAMPLE)
+            .map(|_| look_from(grid, dice.cell(size)))
+            .collect(heap)
+    } else {
+        (0..size.cells())
+            .map(|place| look_from(grid, size.cell_at(place)))
+            .collect(heap)
     }
-    for row in 0..rows {
-        for col in 0..cols {
-            all.push(look_from(grid, Cell { row, col }))?;
-        }
-    }
-    Ok(all)
 }
 
 // Mostly an open cell; now and then any, which may lie just outside.
 fn pick(grid: &Grid, dice: &mut Dice) -> Cell {
     if dice.chance(8) {
-        return dice.cell(grid.rows.saturating_add(1), grid.cols.saturating_add(1));
+        return dice.cell(grid.size.widened());
     }
     for _ in 0..24 {
-        let cell = dice.cell(grid.rows, grid.cols);
+        let cell = dice.cell(grid.size);
         if grid.is_open(cell) {
             return cell;
         }
     }
-    dice.cell(grid.rows, grid.cols)
+    dice.cell(grid.size)
 }
 
 fn picks(
@@ -113,38 +112,31 @@ fn picks(
     dice: &mut Dice,
     count: usize,
 ) -> Result<Vec<Cell>, AllocError> {
-    let mut cells = Vec::new(heap);
-    for _ in 0..count {
-        cells.push(pick(grid, dice))?;
-    }
-    Ok(cells)
+    (0..count).map(|_| pick(grid, dice)).collect(heap)
 }
 
-fn plain_reply(grid: &Grid, field: &Field, start: Cell, target: Cell) -> Reply {
+fn plain_reply(field: &Field<'_>, start: Cell, target: Cell) -> Reply {
+    let grid = field.grid;
     if grid.place(start).is_none() {
-        return Reply::Refused(1);
+        return Err(Refusal::Outside);
     }
     if grid.place(target).is_none() {
-        return Reply::Refused(2);
+        return Err(Refusal::TargetOutside);
     }
     if !grid.is_open(start) {
-        return Reply::Refused(3);
+        return Err(Refusal::Closed);
     }
     if !grid.is_open(target) {
-        return Reply::Refused(4);
+        return Err(Refusal::TargetClosed);
     }
-    match field.counts(grid, target) {
-        Some(counts) => Reply::Cheapest(counts),
-        None => Reply::Refused(7),
-    }
+    field.counts(target).ok_or(Refusal::NoRoute)
 }
 
-fn asked(grid: &Grid, field: &Field, start: Cell, target: Cell) -> Ask {
-    let reply = plain_reply(grid, field, start, target);
+fn asked(field: &Field<'_>, start: Cell, target: Cell) -> Ask {
     Ask {
         start,
         target,
-        reply,
+        reply: plain_reply(field, start, target),
     }
 }
 
@@ -158,13 +150,13 @@ fn write_paper(
 ) -> Result<Paper, AllocError> {
     let mut asks = Vec::new(heap);
     let mut legs = Vec::new(heap);
-    for (number, station) in stations.iter().enumerate() {
+    let nexts = stations.iter().skip(1).chain(stations.first());
+    for (station, next) in stations.iter().zip(nexts) {
         let field = flood(heap, grid, price, *station)?;
         for target in targets {
-            asks.push(asked(grid, &field, *station, *target))?;
+            asks.push(asked(&field, *station, *target))?;
         }
-        let next = stations.get(number.saturating_add(1)).or(stations.first());
-        legs.push(asked(grid, &field, *station, *next.unwrap_or(station)))?;
+        legs.push(asked(&field, *station, *next))?;
     }
     Ok(Paper {
         price,
@@ -176,20 +168,15 @@ fn write_paper(
 
 // Marks that open each open cell of a floor.
 pub fn openings(heap: Global, grid: &Grid) -> Result<Vec<Mark>, AllocError> {
-    let mut marks = Vec::new(heap);
-    for row in 0..grid.rows {
-        for col in 0..grid.cols {
-            let cell = Cell { row, col };
-            if grid.is_open(cell) {
-                marks.push(Mark {
-                    cell,
-                    open: true,
-                    changes: Some(true),
-                })?;
-            }
-        }
-    }
-    Ok(marks)
+    (0..grid.size.cells())
+        .map(|place| grid.size.cell_at(place))
+        .filter(|cell| grid.is_open(*cell))
+        .map(|cell| Mark {
+            cell,
+            open: true,
+            changes: Some(true),
+        })
+        .collect(heap)
 }
 
 // Marks cells by chance, open or closed, now and then one just outside.
@@ -201,7 +188,7 @@ pub fn remark(
 ) -> Result<Vec<Mark>, AllocError> {
     let mut marks = Vec::new(heap);
     for _ in 0..count {
-        let cell = dice.cell(grid.rows.saturating_add(1), grid.cols.saturating_add(1));
+        let cell = dice.cell(grid.size.widened());
         let open = dice.chance(50);
         let changes = grid.mark(cell, open);
         marks.push(Mark {
@@ -220,30 +207,17 @@ pub fn examine(
     dice: &mut Dice,
     marks: Vec<Mark>,
 ) -> Result<Moment, AllocError> {
-    let large = grid.cells() > FEW_CELLS;
+    let large = grid.size.cells() > FEW_CELLS;
     let count = if large { 2 } else { 2 + dice.roll(3) };
     let stations = picks(heap, grid, dice, count)?;
     let targets = picks(heap, grid, dice, count)?;
     let views = views(heap, grid, dice)?;
-    let exact = write_paper(
-        heap,
-        grid,
-        Price::Exact,
-        stations.as_slice(),
-        targets.as_slice(),
-    )?;
-    let counter = write_paper(
-        heap,
-        grid,
-        Price::Counter,
-        stations.as_slice(),
-        targets.as_slice(),
-    )?;
+    let write = |price| write_paper(heap, grid, price, stations.as_slice(), targets.as_slice());
     Ok(Moment {
-        grid: grid.copy()?,
+        grid: grid.clone()?,
         marks,
         views,
-        exact,
-        counter,
+        exact: write(Price::Exact)?,
+        counter: write(Price::Counter)?,
     })
 }

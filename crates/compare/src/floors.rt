@@ -4,8 +4,10 @@ ghost use Rattle.std.specs.Prelude.{◌<◌, ◌≤◌};
 use crate::dice::Dice;
 use crate::grid::{Grid, neighbour};
 use floor::Cell;
+use std::fmt;
 
 // Rows and columns. A row or a column of a packed floor is a word up to 64 cells and two words beyond.
+// Kept: pairs, since no size has a meaning of its own here; as structs they would be no plainer.
 pub const SIZES: [(usize, usize); 20] = [
     (1, 1),
     (1, 2),
@@ -57,9 +59,9 @@ pub const KINDS: [Kind; 11] = [
     Kind::Comb,
 ];
 
-impl Kind {
-    pub fn name(self) -> &'static str {
-        match self {
+impl fmt::Display for Kind {
+    fn fmt<W: fmt::Write>(&self, f: &mut fmt::Formatter<W>) -> fmt::Result {
+        let name = match self {
             Kind::Open => "open",
             Kind::Closed => "closed",
             Kind::Scattered(_) => "scattered",
@@ -67,9 +69,12 @@ impl Kind {
             Kind::Corridors => "corridors",
             Kind::Maze => "maze",
             Kind::Comb => "comb",
-        }
+        };
+        write!(f, "{name}")
     }
+}
 
+impl Kind {
     // Lays out a floor on which every cell is closed.
     pub fn lay_out(self, grid: &mut Grid, dice: &mut Dice) {
         match self {
@@ -88,38 +93,41 @@ impl Kind {
     }
 }
 
+// Marks each cell, open or closed as the rule says.
+fn mark_by<F: FnMut(Cell) -> bool>(grid: &mut Grid, mut rule: F)
+    requires { F.IsAlwaysCallable rule }
+{
+    let size = grid.size;
+    for place in 0..size.cells() {
+        let cell = size.cell_at(place);
+        grid.mark(cell, rule(cell));
+    }
+}
+
 // Opens each cell but so many of a hundred.
 fn scatter(grid: &mut Grid, dice: &mut Dice, percent: usize) {
-    for row in 0..grid.rows {
-        for col in 0..grid.cols {
-            grid.mark(Cell { row, col }, !dice.chance(percent));
-        }
-    }
+    mark_by(grid, |_| !dice.chance(percent));
 }
 
 // Opens all but walls around square rooms.
 fn wall_in(grid: &mut Grid, side: usize)
     requires { 0 < side }
 {
-    for row in 0..grid.rows {
-        for col in 0..grid.cols {
-            grid.mark(Cell { row, col }, row % side != 0 && col % side != 0);
-        }
-    }
+    mark_by(grid, |cell| cell.row % side != 0 && cell.col % side != 0);
 }
 
 // From each post, where walls cross, opens a cell of the wall to the east and one of the wall to the south.
 fn open_doors(grid: &mut Grid, dice: &mut Dice, side: usize)
     requires { 0 < side }
 {
-    for row in 0..grid.rows {
-        for col in 0..grid.cols {
-            if row % side == 0 && col % side == 0 {
-                let east = col.saturating_add(dice.roll(side));
-                let south = row.saturating_add(dice.roll(side));
-                grid.mark(Cell { row, col: east }, true);
-                grid.mark(Cell { row: south, col }, true);
-            }
+    let size = grid.size;
+    for place in 0..size.cells() {
+        let Cell { row, col } = size.cell_at(place);
+        if row % side == 0 && col % side == 0 {
+            let east = col.saturating_add(dice.roll(side));
+            let south = row.saturating_add(dice.roll(side));
+            grid.mark(Cell { row, col: east }, true);
+            grid.mark(Cell { row: south, col }, true);
         }
     }
 }
@@ -138,8 +146,8 @@ fn dig_on(grid: &mut Grid, from: Cell, heading: usize, steps: usize) -> Cell {
 
 // Corridors, each beginning where the one before it ends.
 fn dig(grid: &mut Grid, dice: &mut Dice) {
-    let mut at = dice.cell(grid.rows, grid.cols);
-    for _ in 0..grid.cells() / 8 + 1 {
+    let mut at = dice.cell(grid.size);
+    for _ in 0..grid.size.cells() / 8 + 1 {
         let heading = 2 * dice.roll(4);
         let steps = dice.roll(24);
         at = dig_on(grid, at, heading, steps);
@@ -150,7 +158,7 @@ fn dig(grid: &mut Grid, dice: &mut Dice) {
 fn carve(grid: &mut Grid, dice: &mut Dice) {
     let mut at = Cell { row: 0, col: 0 };
     grid.mark(at, true);
-    for _ in 0..grid.cells().saturating_mul(4) {
+    for _ in 0..grid.size.cells().saturating_mul(4) {
         let heading = 2 * dice.roll(4);
         let Some(wall) = neighbour(at, heading) else {
             continue;
@@ -169,15 +177,10 @@ fn carve(grid: &mut Grid, dice: &mut Dice) {
 }
 
 fn comb(grid: &mut Grid) {
-    let last = grid.rows.saturating_sub(1);
-    for row in 0..grid.rows {
-        for col in 0..grid.cols {
-            let gap = match col % 4 {
-                1 => row == 0,
-                3 => row == last,
-                _ => true,
-            };
-            grid.mark(Cell { row, col }, gap);
-        }
-    }
+    let last = grid.size.rows.saturating_sub(1);
+    mark_by(grid, |cell| match cell.col % 4 {
+        1 => cell.row == 0,
+        3 => cell.row == last,
+        _ => true,
+    });
 }

@@ -1,8 +1,10 @@
 // A floor held cell by cell, with the legal steps and the jumps written out plainly.
+use crate::extent::Extent;
 use floor::Cell;
 use std::alloc::{AllocError, Global};
 
-// Headings are numbers here, clockwise from north; straight ones are even. A step leads to the row and the column with these added, less one.
+// Kept: headings are numbers here, clockwise from north with the straight ones even: an enum would need each turn written out, and be no plainer.
+// A step leads to the row and the column with these added, less one.
 const SHIFTS: [(usize, usize); 8] = [
     (0, 1),
     (0, 2),
@@ -29,46 +31,31 @@ pub fn neighbour(cell: Cell, heading: usize) -> Option<Cell> {
     Some(Cell { row, col })
 }
 
-#[derive(Drop)]
+#[derive(Clone, Drop)]
 pub struct Grid {
-    pub rows: usize,
-    pub cols: usize,
+    pub size: Extent,
     open: Vec<bool>,
 }
 
 impl Grid {
     // With every cell closed.
-    pub fn new(heap: Global, rows: usize, cols: usize) -> Result<Grid, AllocError> {
-        let open = vec![in heap; false; rows.saturating_mul(cols)]?;
-        Ok(Grid { rows, cols, open })
-    }
-
-    pub fn copy(&self) -> Result<Grid, AllocError> {
-        Ok(Grid {
-            rows: self.rows,
-            cols: self.cols,
-            open: self.open.clone()?,
-        })
-    }
-
-    pub fn cells(&self) -> usize {
-        self.open.len()
+    pub fn new(heap: Global, size: Extent) -> Result<Grid, AllocError> {
+        let open = vec![in heap; false; size.cells()]?;
+        Ok(Grid { size, open })
     }
 
     // Where a cell stands among all cells, row by row; one outside has no place.
     pub fn place(&self, cell: Cell) -> Option<usize> {
-        if cell.row < self.rows && cell.col < self.cols {
-            cell.row.checked_mul(self.cols)?.checked_add(cell.col)
+        if cell.row < self.size.rows && cell.col < self.size.cols {
+            cell.row.checked_mul(self.size.cols)?.checked_add(cell.col)
         } else {
             None
         }
     }
 
     pub fn is_open(&self, cell: Cell) -> bool {
-        match self.place(cell) {
-            Some(place) => self.open.get(place).copied().unwrap_or(false),
-            None => false,
-        }
+        self.place(cell)
+            .is_some_and(|place| self.open.get(place).copied() == Some(true))
     }
 
     // Sets a cell, and answers whether that changed it; none is changed outside.
@@ -81,10 +68,7 @@ impl Grid {
     }
 
     fn is_open_beside(&self, cell: Cell, heading: usize) -> bool {
-        match neighbour(cell, heading) {
-            Some(next) => self.is_open(next),
-            None => false,
-        }
+        neighbour(cell, heading).is_some_and(|next| self.is_open(next))
     }
 
     // The cell that a legal step leads to. A diagonal step needs the two cells beside it as well.
@@ -93,11 +77,7 @@ impl Grid {
         let free = heading % 2 == 0
             || self.is_open_beside(cell, turned(heading, 1))
                 && self.is_open_beside(cell, turned(heading, 7));
-        if free && self.is_open(cell) && self.is_open(next) {
-            Some(next)
-        } else {
-            None
-        }
+        (free && self.is_open(cell) && self.is_open(next)).then_some(next)
     }
 
     // Whether to this side the way is closed at the first cell and open at the second.
@@ -105,15 +85,21 @@ impl Grid {
         !self.is_open_beside(from, side) && self.is_open_beside(to, side)
     }
 
-    fn straight_jump(&self, from: Cell, heading: usize) -> (u16, bool) {
+    // Legal steps up to the first, from a cell to the next, that ends at a stop; the jump is live if one does.
+    fn jump_until<F: Fn(Cell, Cell) -> bool>(
+        &self,
+        from: Cell,
+        heading: usize,
+        stops: F,
+    ) -> (u16, bool)
+        requires { F.IsAlwaysCallable stops }
+    {
         let mut at = from;
         for steps in 0..LONGEST {
             let Some(next) = self.step(at, heading) else {
                 return (steps, false);
             };
-            if self.opens_up(at, next, turned(heading, 2))
-                || self.opens_up(at, next, turned(heading, 6))
-            {
+            if stops(at, next) {
                 return (steps + 1, true);
             }
             at = next;
@@ -121,30 +107,26 @@ impl Grid {
         (LONGEST, false)
     }
 
+    fn straight_jump(&self, from: Cell, heading: usize) -> (u16, bool) {
+        self.jump_until(from, heading, |at, next| {
+            self.opens_up(at, next, turned(heading, 2))
+                || self.opens_up(at, next, turned(heading, 6))
+        })
+    }
+
     fn diagonal_jump(&self, from: Cell, heading: usize) -> (u16, bool) {
-        let mut at = from;
-        for steps in 0..LONGEST {
-            let Some(next) = self.step(at, heading) else {
-                return (steps, false);
-            };
-            if self.straight_jump(next, turned(heading, 1)).1
+        self.jump_until(from, heading, |_, next| {
+            self.straight_jump(next, turned(heading, 1)).1
                 || self.straight_jump(next, turned(heading, 7)).1
-            {
-                return (steps + 1, true);
-            }
-            at = next;
-        }
-        (LONGEST, false)
+        })
     }
 
     // Steps, and whether live. A number above 7 is no heading.
     pub fn jump(&self, from: Cell, heading: usize) -> (u16, bool) {
-        if heading > 7 {
-            (0, false)
-        } else if heading % 2 == 0 {
-            self.straight_jump(from, heading)
-        } else {
-            self.diagonal_jump(from, heading)
+        match heading {
+            0 | 2 | 4 | 6 => self.straight_jump(from, heading),
+            1 | 3 | 5 | 7 => self.diagonal_jump(from, heading),
+            _ => (0, false),
         }
     }
 }

@@ -6,20 +6,25 @@ mod courses;
 mod dice;
 mod edges;
 mod exam;
+mod extent;
 mod flood;
 mod floors;
 mod grid;
 mod makings;
+mod prices;
+mod steps;
 mod tally;
 mod visits;
+mod words;
 
 use anyhow::anyhow;
 use dice::Dice;
+use extent::Extent;
 use floors::{KINDS, Kind, SIZES};
 use makings::go_to_edges;
 use std::env;
 use tally::Tally;
-use visits::{Extent, visit};
+use visits::visit;
 
 // Where the dice begin, and how often each kind of floor of each size is laid out.
 #[derive(Clone, Copy)]
@@ -62,10 +67,8 @@ fn compare_on(
     visit(rt.alloc(), size, kind, dice, tally)?;
     let more = tally.differ().saturating_sub(before);
     if more > 0 {
-        let name = kind.name();
-        let rows = size.rows;
-        let cols = size.cols;
-        eprintln!(rt; "{name} floor of {rows} by {cols}: {more} differ")?;
+        let Extent { rows, cols } = size;
+        eprintln!(rt; "{kind} floor of {rows} by {cols}: {more} differ")?;
     }
     Ok(())
 }
@@ -76,7 +79,7 @@ fn compare_all(rt: &HostRuntime, dice: &mut Dice, tally: &mut Tally) -> anyhow::
         let size = Extent { rows, cols };
         let first = dice.roll(3);
         for (number, kind) in KINDS.iter().enumerate() {
-            if size.bytes() <= LARGE || number % 3 == first {
+            if size.cells() <= LARGE || number % 3 == first {
                 compare_on(rt, size, *kind, dice, tally)?;
             }
         }
@@ -87,12 +90,12 @@ fn compare_all(rt: &HostRuntime, dice: &mut Dice, tally: &mut Tally) -> anyhow::
 fn run(rt: &HostRuntime) -> anyhow::Result<()> {
     let plan = plan(rt)?;
     let mut dice = Dice::new(plan.seed);
-    let mut tally = Tally::EMPTY;
+    let mut tally = Tally::default();
     for _ in 0..plan.rounds {
         compare_all(rt, &mut dice, &mut tally)?;
     }
     go_to_edges(rt.alloc(), &mut tally.edges)?;
-    tally.print(rt)?;
+    println!(rt; "{tally}")?;
     if tally.differ() > 0 {
         return Err(anyhow!("answers differ"));
     }

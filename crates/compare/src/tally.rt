@@ -1,40 +1,43 @@
 // How many answers were compared, and how many differ, kind by kind.
-use std::io;
+use std::fmt;
+use std::ops::Add;
 
-#[derive(Clone, Copy)]
+#[derive(Clone, Copy, Default)]
 pub struct Line {
     compared: u64,
     differ: u64,
 }
 
 impl Line {
-    const EMPTY: Line = Line {
-        compared: 0,
-        differ: 0,
-    };
-
     pub fn note(&mut self, agrees: bool) {
         self.compared = self.compared.saturating_add(1);
         if !agrees {
             self.differ = self.differ.saturating_add(1);
         }
     }
+}
 
-    fn plus(self, other: Line) -> Line {
+impl Add for Line {
+    type Output = Line;
+
+    fn add(self, other: Line) -> Line {
         Line {
             compared: self.compared.saturating_add(other.compared),
             differ: self.differ.saturating_add(other.differ),
         }
     }
+}
 
-    fn print(self, rt: &HostRuntime, name: &str) -> io::Result<()> {
+impl fmt::Display for Line {
+    fn fmt<W: fmt::Write>(&self, f: &mut fmt::Formatter<W>) -> fmt::Result {
         let compared = self.compared;
         let differ = self.differ;
-        println!(rt; "{name} {compared} differ {differ}")
+        write!(f, "{compared} differ {differ}")
     }
 }
 
-#[derive(Clone, Copy)]
+// Kept: ten fields, since each line is noted by its name; in an array a kind would be a number.
+#[derive(Clone, Copy, Default)]
 pub struct Tally {
     pub marks: Line,
     pub jumps: Line,
@@ -49,19 +52,6 @@ pub struct Tally {
 }
 
 impl Tally {
-    pub const EMPTY: Tally = Tally {
-        marks: Line::EMPTY,
-        jumps: Line::EMPTY,
-        labels: Line::EMPTY,
-        lengths: Line::EMPTY,
-        finished: Line::EMPTY,
-        figures: Line::EMPTY,
-        routes: Line::EMPTY,
-        loops: Line::EMPTY,
-        memory: Line::EMPTY,
-        edges: Line::EMPTY,
-    };
-
     fn named(&self) -> [(&'static str, Line); 10] {
         [
             ("marks", self.marks),
@@ -78,23 +68,24 @@ impl Tally {
     }
 
     fn total(&self) -> Line {
-        let mut all = Line::EMPTY;
-        for (_, line) in self.named() {
-            all = all.plus(line);
-        }
-        all
+        self.named()
+            .iter()
+            .fold(Line::default(), |all, (_, line)| all + *line)
     }
 
     // How many answers differ, of any kind.
     pub fn differ(&self) -> u64 {
         self.total().differ
     }
+}
 
-    // A line for each kind, and the total.
-    pub fn print(&self, rt: &HostRuntime) -> io::Result<()> {
+// A line for each kind, and the total.
+impl fmt::Display for Tally {
+    fn fmt<W: fmt::Write>(&self, f: &mut fmt::Formatter<W>) -> fmt::Result {
         for (name, line) in self.named() {
-            line.print(rt, name)?;
+            writeln!(f, "{name} {line}")?;
         }
-        self.total().print(rt, "all")
+        let all = self.total();
+        write!(f, "all {all}")
     }
 }

@@ -21,14 +21,21 @@ const DIAGONAL: [Heading; 4] = [
     Heading::NorthWest,
 ];
 
+// How many labels were read, and how many written.
+#[derive(Clone, Copy, Default)]
+pub struct Effort {
+    pub reads: u64,
+    pub writes: u64,
+}
+
 #[derive(Drop)]
 pub struct Twin {
     labels: Vec<u16>,
-    reads: u64,
-    writes: u64,
+    effort: Effort,
 }
 
 // What became of a label that was put right.
+// Kept: beside the table's own, which only the table uses; one for both would be no plainer.
 #[derive(Clone, Copy, PartialEq, Eq)]
 enum Change {
     Same,
@@ -38,7 +45,7 @@ enum Change {
 
 fn place_of(cell: Cell, towards: Heading) -> Option<usize> {
     if cell.row < SIDE && cell.col < SIDE {
-        Some(8 * (cell.row * SIDE + cell.col) + towards.number() as usize)
+        Some(8 * (cell.row * SIDE + cell.col) + usize::from(towards))
     } else {
         None
     }
@@ -50,61 +57,51 @@ impl Twin {
         let mut labels = Vec::new(heap);
         for row in 0..SIDE {
             for col in 0..SIDE {
-                for label in floor.labels(Cell { row, col }) {
-                    labels.push(label)?;
-                }
+                labels.extend(floor.labels(Cell { row, col }))?;
             }
         }
         Ok(Twin {
             labels,
-            reads: 0,
-            writes: 0,
+            effort: Effort::default(),
         })
     }
 
-    pub fn reads(&self) -> u64 {
-        self.reads
-    }
-
-    pub fn writes(&self) -> u64 {
-        self.writes
+    pub fn effort(&self) -> Effort {
+        self.effort
     }
 
     // Whether the labels are those of the floor.
     pub fn agrees(&self, floor: &TableSource<'_>) -> bool {
-        for row in 0..SIDE {
-            for col in 0..SIDE {
-                let cell = Cell { row, col };
-                for (number, label) in floor.labels(cell).iter().enumerate() {
-                    if self.labels.get(8 * (row * SIDE + col) + number).copied() != Some(*label) {
-                        return false;
-                    }
-                }
-            }
-        }
-        true
+        let mut cells = self.labels.as_slice().chunks(8).enumerate();
+        self.labels.len() == LABELS
+            && cells.all(|(place, labels)| {
+                let cell = Cell {
+                    row: place / SIDE,
+                    col: place % SIDE,
+                };
+                labels == floor.labels(cell).as_slice()
+            })
     }
 
     fn label(&mut self, cell: Cell, towards: Heading) -> u16 {
-        self.reads = self.reads.wrapping_add(1);
-        match place_of(cell, towards) {
-            Some(place) => self.labels.get(place).copied().unwrap_or(DEAD),
-            None => DEAD,
-        }
+        self.effort.reads = self.effort.reads.wrapping_add(1);
+        place_of(cell, towards)
+            .and_then(|place| self.labels.get(place).copied())
+            .unwrap_or(DEAD)
     }
 
     fn write(&mut self, cell: Cell, towards: Heading, label: u16) {
-        self.writes = self.writes.wrapping_add(1);
-        if let Some(place) = place_of(cell, towards) {
-            if let Some(slot) = self.labels.get_mut(place) {
-                *slot = label;
-            }
+        self.effort.writes = self.effort.writes.wrapping_add(1);
+        if let Some(place) = place_of(cell, towards)
+            && let Some(slot) = self.labels.get_mut(place)
+        {
+            *slot = label;
         }
     }
 
     // What a label should be. The marked floor says whether a step is legal, and whether it ends at a stop.
     fn due(&mut self, floor: &TableSource<'_>, cell: Cell, towards: Heading) -> u16 {
-        let jump = floor.jump(cell, towards.number());
+        let jump = floor.jump(cell, u8::from(towards));
         let Some(next) = cell.stepped(towards) else {
             return DEAD;
         };
@@ -141,37 +138,43 @@ impl Twin {
         }
     }
 
-    fn walk_diagonal(&mut self, floor: &TableSource<'_>, from: Option<Cell>, towards: Heading) {
+    // Puts labels right along a line, backwards, until one is right already. Where one comes to life or dies, more is to do.
+    fn walk<F: FnMut(&mut Twin, Cell)>(
+        &mut self,
+        floor: &TableSource<'_>,
+        from: Option<Cell>,
+        towards: Heading,
+        mut at_life: F,
+    )
+        requires { F.IsAlwaysCallable at_life }
+    {
         let mut at = from;
+        // Kept: so many steps at most, in place of a measure of what is left to walk, which would be no plainer.
         for _ in 0..SIDE {
             let Some(cell) = at else {
                 return;
             };
-            if self.put_right(floor, cell, towards) == Change::Same {
-                return;
+            match self.put_right(floor, cell, towards) {
+                Change::Same => return,
+                Change::Steps => {}
+                Change::Life => at_life(&mut *self, cell),
             }
             at = cell.stepped(towards.opposite());
         }
     }
 
+    fn walk_diagonal(&mut self, floor: &TableSource<'_>, from: Option<Cell>, towards: Heading) {
+        self.walk(floor, from, towards, |_, _| {});
+    }
+
+    // A straight jump's life decides where the diagonal ones beside it end.
     fn walk_straight(&mut self, floor: &TableSource<'_>, from: Option<Cell>, towards: Heading) {
-        let mut at = from;
-        for _ in 0..SIDE {
-            let Some(cell) = at else {
-                return;
-            };
-            let change = self.put_right(floor, cell, towards);
-            if change == Change::Same {
-                return;
+        self.walk(floor, from, towards, |twin, cell| {
+            for side in [Side::Left, Side::Right] {
+                let beside = towards.turn(side);
+                twin.walk_diagonal(floor, cell.stepped(beside.opposite()), beside);
             }
-            if change == Change::Life {
-                let left = towards.turn(Side::Left);
-                let right = towards.turn(Side::Right);
-                self.walk_diagonal(floor, cell.stepped(left.opposite()), left);
-                self.walk_diagonal(floor, cell.stepped(right.opposite()), right);
-            }
-            at = cell.stepped(towards.opposite());
-        }
+        });
     }
 
     // Mends the copy after a mark of the floor at `cell`, in the order in which the table does.
@@ -181,18 +184,22 @@ impl Twin {
             let left = back.turn(Side::Left);
             let right = back.turn(Side::Right);
             self.walk_straight(floor, Some(cell), towards);
-            self.walk_straight(floor, cell.stepped(back), towards);
-            self.walk_straight(floor, cell.stepped(left), towards);
-            self.walk_straight(floor, cell.stepped(right), towards);
-            self.walk_straight(floor, cell.stepped(left.turn(Side::Left)), towards);
-            self.walk_straight(floor, cell.stepped(right.turn(Side::Right)), towards);
+            for beside in [
+                back,
+                left,
+                right,
+                left.turn(Side::Left),
+                right.turn(Side::Right),
+            ] {
+                self.walk_straight(floor, cell.stepped(beside), towards);
+            }
         }
         for towards in DIAGONAL {
             let back = towards.opposite();
             self.walk_diagonal(floor, Some(cell), towards);
-            self.walk_diagonal(floor, cell.stepped(back), towards);
-            self.walk_diagonal(floor, cell.stepped(back.turn(Side::Left)), towards);
-            self.walk_diagonal(floor, cell.stepped(back.turn(Side::Right)), towards);
+            for beside in [back, back.turn(Side::Left), back.turn(Side::Right)] {
+                self.walk_diagonal(floor, cell.stepped(beside), towards);
+            }
         }
     }
 }

@@ -3,7 +3,7 @@
 
 mod counting;
 
-use counting::{SIDE, Twin};
+use counting::{Effort, SIDE, Twin};
 use floor::Cell;
 use source::JumpSource;
 use table::TableSource;
@@ -18,6 +18,7 @@ const NUMBERS: usize = 147456;
 const MARKS: u64 = 256;
 
 // Pseudo-random numbers, the same at each run.
+// Kept: a generator of its own, since under another the floors, and so the figures printed, would be others.
 #[derive(Drop)]
 struct Dice {
     state: u32,
@@ -63,8 +64,9 @@ fn measure(rt: &HostRuntime, closed: u32) -> anyhow::Result<()> {
     lay_out(&mut floor, &mut dice, closed);
     let mut twin = Twin::of(rt.alloc(), &floor)?;
     change_some(&mut floor, &mut dice, &mut twin);
-    let reads = twin.reads() / MARKS;
-    let writes = twin.writes() / MARKS;
+    let Effort { reads, writes } = twin.effort();
+    let reads = reads / MARKS;
+    let writes = writes / MARKS;
     let agrees = twin.agrees(&floor);
     println!(rt;
         "one cell in {closed} closed: a mark reads {reads} and writes {writes} of 131072 labels; the copy agrees: {agrees}"

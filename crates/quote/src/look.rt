@@ -1,13 +1,16 @@
 // A look at a sheet's floor: the jumps from its panel, and the length from there to its first device.
+use crate::refuse;
 use floor::Cell;
 use lengths::{Measured, Refusal};
 use packed::PackedSource;
-use planner::Planner;
+use planner::{Entry as Place, Planner, Work};
 use rate::Rate;
 use rates::exact::ExactRate;
-use search::entry::Entry as Place;
+use report::planner_fault;
 use sheet::Entry;
 use source::JumpSource;
+use std::fmt;
+use std::fmt::Display;
 use std::process::ExitCode;
 
 // Rows, and columns, of the floor that a sheet speaks of.
@@ -19,6 +22,7 @@ const WORDS: usize = 32;
 // Eight places for each cell.
 const PLACES: usize = 2048;
 
+// Kept: `quoting` has a like function that passes over refusals, since no cell of a sheet gets one; here one would be printed, so one for both is no plainer.
 fn open_cells<S: JumpSource, R: Rate>(
     planner: &mut Planner<S, R>,
     entries: &[Entry],
@@ -55,28 +59,35 @@ fn length_between<S: JumpSource, R: Rate>(
 ) -> Result<Measured, Refusal> {
     let mut places = [Place::BLANK; PLACES];
     let mut waiting = [0u32; PLACES];
-    planner.length(start, target, &mut places, &mut waiting)
+    let mut work = Work {
+        entries: &mut places,
+        waiting: &mut waiting,
+    };
+    planner.length(start, target, &mut work)
 }
 
-fn sentence(refusal: Refusal) -> &'static str {
-    match refusal {
-        Refusal::Outside => "the cell is outside the floor",
-        Refusal::TargetOutside => "the target is outside the floor",
-        Refusal::Closed => "the start is closed",
-        Refusal::TargetClosed => "the target is closed",
-        Refusal::ShortWork => "a work list is too short",
-        Refusal::ShortCorners => "the corner list is too short",
-        Refusal::NoRoute => "no legal route leads to the target",
+// A planner's refusal in words. There is no loop here, and so no leg to name.
+#[derive(Clone, Copy)]
+struct Sentence(Refusal);
+
+impl Display for Sentence {
+    fn fmt<W: fmt::Write>(&self, f: &mut fmt::Formatter<W>) -> fmt::Result {
+        f.write_str(match self.0 {
+            Refusal::Outside => "the cell is outside the floor",
+            Refusal::TargetOutside => "the target is outside the floor",
+            Refusal::Closed => "the start is closed",
+            Refusal::TargetClosed => "the target is closed",
+            Refusal::ShortWork => "a work list is too short",
+            Refusal::ShortCorners => "the corner list is too short",
+            Refusal::NoRoute => "no legal route leads to the target",
+        })
     }
 }
 
-// As a sheet is refused: values, a sentence, and status 1. There is no loop here, and so no leg.
-fn refuse(rt: &HostRuntime, refusal: Refusal) -> anyhow::Result<ExitCode> {
-    let fault = report::planner_fault(usize::from(refusal.number()), 0);
-    let why = sentence(refusal);
-    println!(rt; "{fault}")?;
-    eprintln!(rt; "quote: {why}")?;
-    Ok(ExitCode::FAILURE)
+// As a sheet is refused.
+fn refuse_call(rt: &HostRuntime, refusal: Refusal) -> anyhow::Result<ExitCode> {
+    let fault = planner_fault(usize::from(refusal.number()), 0);
+    refuse(rt, fault, Sentence(refusal))
 }
 
 // Prints the length from the panel to the first device, if there is one.
@@ -94,7 +105,7 @@ fn look_ahead<S: JumpSource, R: Rate>(
             print_length(rt, measured)?;
             Ok(ExitCode::SUCCESS)
         }
-        Err(refusal) => refuse(rt, refusal),
+        Err(refusal) => refuse_call(rt, refusal),
     }
 }
 
@@ -107,7 +118,7 @@ pub fn look(rt: &HostRuntime, entries: &[Entry], stops: &[Cell]) -> anyhow::Resu
     let mut floor = PackedSource::make(&mut words, SIDE, SIDE);
     let mut planner = Planner::new(&mut floor, ExactRate);
     if let Err(refusal) = open_cells(&mut planner, entries) {
-        return refuse(rt, refusal);
+        return refuse_call(rt, refusal);
     }
     print_jumps(rt, &planner.source, *panel)?;
     look_ahead(rt, &planner, *panel, devices)

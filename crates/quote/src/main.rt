@@ -1,40 +1,24 @@
 // Reads a sheet from standard input, and prints what it holds and how its floor looks from the panel, or why it is refused.
 #![tactic(auto)]
 
-ghost use Rattle.std.specs.Prelude.{◌≤◌, length, IfOk};
-
 mod look;
 
 use floor::Cell;
 use look::look;
-use sheet::{Entry, Mark, Refusal};
-use std::io;
+use report::Fault;
+use sheet::{Entry, Mark};
+use std::fmt::Display;
 use std::io::Read;
 use std::process::ExitCode;
 
 // One byte more than the longest sheet, so that a longer one shows.
-const MOST_READ: usize = 4097;
+const MOST_READ: u64 = 4097;
 
 const UNUSED: Entry = Entry {
     cell: Cell { row: 0, col: 0 },
     mark: Mark::Open,
     line: 0,
 };
-
-// Reads until the buffer is full or the input ends, and says how much was read.
-fn fill(input: &mut impl Read, buffer: &mut [u8]) -> io::Result<usize>
-    ensures { IfOk result (λ n. n ≤ length buffer.new) }
-{
-    let mut count = 0;
-    while count < buffer.len() {
-        let more = input.read(&mut buffer[count..])?;
-        if more == 0 {
-            break;
-        }
-        count += more;
-    }
-    Ok(count)
-}
 
 // Prints what the sheet holds, and then looks at its floor.
 fn list(rt: &HostRuntime, entries: &[Entry]) -> anyhow::Result<ExitCode> {
@@ -44,20 +28,23 @@ fn list(rt: &HostRuntime, entries: &[Entry]) -> anyhow::Result<ExitCode> {
     look(rt, entries, stops.as_slice())
 }
 
-// The values go to standard output, a sentence to standard error, and the program ends with status 1.
-fn refuse(rt: &HostRuntime, refusal: Refusal) -> anyhow::Result<ExitCode> {
-    let fault = report::sheet_fault(&refusal);
+// A fault's values go to standard output, a sentence to standard error, and the program ends with status 1.
+pub(crate) fn refuse<D: Display + Drop>(
+    rt: &HostRuntime,
+    fault: Fault,
+    why: D,
+) -> anyhow::Result<ExitCode> {
     println!(rt; "{fault}")?;
-    eprintln!(rt; "quote: {refusal}")?;
+    eprintln!(rt; "quote: {why}")?;
     Ok(ExitCode::FAILURE)
 }
 
 fn main(rt: HostRuntime) -> anyhow::Result<ExitCode> {
-    let mut buffer = [0u8; MOST_READ];
-    let count = fill(&mut rt.stdin(), &mut buffer)?;
+    let mut text = Vec::new(rt.alloc());
+    rt.stdin().take(MOST_READ).read_to_end(&mut text)?;
     let mut entries = [UNUSED; 256];
-    match sheet::read(&buffer[0..count], &mut entries) {
+    match sheet::read(text.as_slice(), &mut entries) {
         Ok(named) => list(&rt, &entries[0..named]),
-        Err(refusal) => refuse(&rt, refusal),
+        Err(refusal) => refuse(&rt, Fault::from(&refusal), refusal),
     }
 }

@@ -1,13 +1,17 @@
 // Calls as they are written: one to a line, a word and then cells, parted by single spaces.
 use floor::Cell;
 use history::Call;
+use lengths::Room;
 use std::alloc::{AllocError, AllocFailed, Global};
 use std::fmt;
 use std::fmt::Display;
 use std::num::ParseIntError;
 
 // The full lists for a floor of 16 by 16: an entry for each heading at each cell, and a corner for each cell.
-const WORK: usize = 2048;
+const FULL: Room = Room {
+    entries: 2048,
+    waiting: 2048,
+};
 
 const CORNERS: usize = 256;
 
@@ -115,8 +119,7 @@ fn named(word: &str, cells: Vec<Cell>) -> Result<Call, Fault> {
             Ok(Call::Length {
                 start,
                 target,
-                entries: WORK,
-                waiting: WORK,
+                room: FULL,
             })
         }
         "route" => {
@@ -124,8 +127,7 @@ fn named(word: &str, cells: Vec<Cell>) -> Result<Call, Fault> {
             Ok(Call::Route {
                 start,
                 target,
-                entries: WORK,
-                waiting: WORK,
+                room: FULL,
                 corners: CORNERS,
             })
         }
@@ -133,8 +135,7 @@ fn named(word: &str, cells: Vec<Cell>) -> Result<Call, Fault> {
             let legs = cells.len();
             Ok(Call::Loop {
                 cells,
-                entries: WORK,
-                waiting: WORK,
+                room: FULL,
                 legs,
             })
         }

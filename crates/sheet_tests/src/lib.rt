@@ -15,7 +15,10 @@ pub const BEFORE: Entry = Entry {
 mod tests {
     use super::*;
     use quoting::{PAGE, quote};
+    use report::Fault;
+    use sheet::Figures;
     use std::alloc::{AllocError, Global};
+    use std::fmt::Write;
     use std::process::Abort;
     use std::test::Fail;
 
@@ -90,87 +93,67 @@ mod tests {
     ];
 
     // The sheet is refused by this number, at this line and field.
-    fn refused(
-        rt: &impl Abort,
-        text: &[u8],
-        number: usize,
-        line: usize,
-        field: usize,
-    ) -> Result<(), Fail> {
+    fn refused(rt: &impl Abort, text: &[u8], number: usize, line: usize, field: usize) {
         let mut entries = [BEFORE; 256];
-        match sheet::read(text, &mut entries) {
-            Ok(_) => Err(Fail::new("the sheet was accepted")),
-            Err(refusal) => {
-                let figures = refusal.in_figures();
-                assert_eq!(rt; figures.number, number);
-                assert_eq!(rt; figures.line, line);
-                assert_eq!(rt; figures.field, field);
-                Ok(())
-            }
-        }
+        let figures = sheet::read(text, &mut entries).map_err(|refusal| refusal.in_figures());
+        assert_eq!(rt;
+            figures,
+            Err(Figures {
+                number,
+                line,
+                field
+            })
+        );
     }
 
     // The sheet is read, and has so many entries.
-    fn accepted(rt: &impl Abort, text: &[u8], count: usize) -> Result<(), Fail> {
+    fn accepted(rt: &impl Abort, text: &[u8], count: usize) {
         let mut entries = [BEFORE; 256];
-        match sheet::read(text, &mut entries) {
-            Ok(n) => {
-                assert_eq!(rt; n, count);
-                Ok(())
-            },
-            Err(refusal) => {
-                assert_eq!(rt; refusal.in_figures().number, 0);
-                Ok(())
-            },
-        }
+        assert_eq!(rt; sheet::read(text, &mut entries), Ok(count));
     }
 
     #[test]
-    fn lengths(rt: HostRuntime) -> Result<(), Fail> {
-        refused(&rt, &[b'x'; 4097], 15, 0, 0)?;
-        refused(&rt, &[b'x'; 4096], 17, 1, 0)?;
+    fn lengths(rt: HostRuntime) {
+        refused(&rt, &[b'x'; 4097], 15, 0, 0);
+        refused(&rt, &[b'x'; 4096], 17, 1, 0);
         let mut short = [BEFORE; 255];
-        match sheet::read(b"row col mark\n0 0 P\n", &mut short) {
-            Ok(_) => Err(Fail::new("255 entries are too few")),
-            Err(refusal) => {
-                assert_eq!(rt; refusal.in_figures().number, 16);
-                Ok(())
-            },
-        }
+        let answer = sheet::read(b"row col mark\n0 0 P\n", &mut short);
+        assert_eq!(rt;
+            answer.map_err(|refusal| refusal.in_figures().number),
+            Err(16)
+        );
     }
 
     #[test]
-    fn names(rt: HostRuntime) -> Result<(), Fail> {
+    fn names(rt: HostRuntime) {
         for text in WRONG_NAMES {
-            refused(&rt, text, 17, 1, 0)?;
+            refused(&rt, text, 17, 1, 0);
         }
-        accepted(&rt, b"mark row col\nP 0 0\n", 1)?;
-        accepted(&rt, b"col mark row\n0 P 0", 1)
+        accepted(&rt, b"mark row col\nP 0 0\n", 1);
+        accepted(&rt, b"col mark row\n0 P 0", 1);
     }
 
     #[test]
-    fn three_fields(rt: HostRuntime) -> Result<(), Fail> {
+    fn three_fields(rt: HostRuntime) {
         for (text, line) in NOT_THREE_FIELDS {
-            refused(&rt, text, 18, line, 0)?;
+            refused(&rt, text, 18, line, 0);
         }
-        Ok(())
     }
 
     #[test]
-    fn values(rt: HostRuntime) -> Result<(), Fail> {
+    fn values(rt: HostRuntime) {
         for (text, field) in WRONG_VALUES {
-            refused(&rt, text, 19, 2, field)?;
+            refused(&rt, text, 19, 2, field);
         }
-        refused(&rt, b"row col mark\n0 0 P\n0 1 .\r\n", 19, 3, 3)?;
-        accepted(&rt, b"row col mark\n15 15 P\n0 0 D\n10 9 .", 3)
+        refused(&rt, b"row col mark\n0 0 P\n0 1 .\r\n", 19, 3, 3);
+        accepted(&rt, b"row col mark\n15 15 P\n0 0 D\n10 9 .", 3);
     }
 
     #[test]
-    fn cells_and_panels(rt: HostRuntime) -> Result<(), Fail> {
+    fn cells_and_panels(rt: HostRuntime) {
         for (text, number, line) in WRONG_WHOLES {
-            refused(&rt, text, number, line, 0)?;
+            refused(&rt, text, number, line, 0);
         }
-        Ok(())
     }
 
     // Entries before the fault are filled, and what lies past them stays.
@@ -192,8 +175,7 @@ mod tests {
         for row in 0..16 {
             for col in 0..16 {
                 let mark = if row == 0 && col == 0 { 'P' } else { 'D' };
-                let line = format!(in heap; "{row} {col} {mark}\n")?;
-                text.push_str(line.as_str())?;
+                writeln!(text, "{row} {col} {mark}")?;
             }
         }
         Ok(text)
@@ -202,48 +184,51 @@ mod tests {
     #[test]
     fn every_cell(rt: HostRuntime) -> Result<(), Fail> {
         let mut text = whole_floor(rt.alloc())?;
-        accepted(&rt, text.as_bytes(), 256)?;
+        accepted(&rt, text.as_bytes(), 256);
         text.push_str("7 7 .\n")?;
-        refused(&rt, text.as_bytes(), 20, 258, 0)
+        refused(&rt, text.as_bytes(), 20, 258, 0);
+        Ok(())
     }
 
     #[test]
     fn texts(rt: HostRuntime) -> Result<(), Fail> {
         let mut entries = [BEFORE; 256];
-        match sheet::read(b"row col mark\n0 2 D\n1 2 .\n0 0 P\n2 2 D\n", &mut entries) {
-            Ok(n) => {
-                let stops = sheet::run(rt.alloc(), &entries[0..n])?;
-                let text = report::listing(rt.alloc(), stops.as_slice(), n)?;
-                assert!(rt;
-                    text.as_str() == "kind row col\npanel 0 0\ndevice 0 2\ndevice 2 2\nopen\n4\n"
-                );
-                Ok(())
-            }
-            Err(_) => Err(Fail::new("the sheet was refused")),
-        }
+        let Ok(n) = sheet::read(b"row col mark\n0 2 D\n1 2 .\n0 0 P\n2 2 D\n", &mut entries) else {
+            return Err(Fail::new("the sheet was refused"));
+        };
+        let stops = sheet::run(rt.alloc(), &entries[0..n])?;
+        let text = report::listing(rt.alloc(), stops.as_slice(), n)?;
+        assert_eq!(rt;
+            text.as_str(),
+            "kind row col\npanel 0 0\ndevice 0 2\ndevice 2 2\nopen\n4\n"
+        );
+        Ok(())
     }
 
     #[test]
     fn refusals_in_words(rt: HostRuntime) -> Result<(), Fail> {
         let mut entries = [BEFORE; 256];
-        match sheet::read(b"row col mark\n0 0 P\n0 05 .\n", &mut entries) {
-            Ok(_) => Err(Fail::new("the sheet was accepted")),
-            Err(refusal) => {
-                let fault = report::sheet_fault(&refusal);
-                let figures = format!(in rt.alloc(); "{fault}")?;
-                assert!(rt; figures.as_str() == "number from line field leg\n19 sheet 3 2 0");
-                let words = format!(in rt.alloc(); "{refusal}")?;
-                assert!(rt; words.as_str() == "line 3: field 2 is not a value of its column");
-                Ok(())
-            }
-        }
+        let Err(refusal) = sheet::read(b"row col mark\n0 0 P\n0 05 .\n", &mut entries) else {
+            return Err(Fail::new("the sheet was accepted"));
+        };
+        let figures = Fault::from(&refusal).to_string(rt.alloc())?;
+        assert_eq!(rt;
+            figures.as_str(),
+            "number from line field leg\n19 sheet 3 2 0"
+        );
+        let words = refusal.to_string(rt.alloc())?;
+        assert_eq!(rt;
+            words.as_str(),
+            "line 3: field 2 is not a value of its column"
+        );
+        Ok(())
     }
 
     // What is printed for a sheet.
     fn printed(rt: &impl Abort, sheet: &[u8], text: &[u8]) {
         let mut page = [b'#'; PAGE];
         let outcome = quote(sheet, &mut page);
-        assert!(rt; &page[0..outcome.length] == text);
+        assert_eq!(rt; &page[0..outcome.length], text);
     }
 
     #[test]
@@ -272,8 +257,8 @@ mod tests {
         let Some(refusal) = outcome.refusal else {
             return Err(Fail::new("the sheet was quoted"));
         };
-        let words = format!(in rt.alloc(); "{refusal}")?;
-        assert!(rt; words.as_str() == "leg 1: no legal route leads to its end");
+        let words = refusal.to_string(rt.alloc())?;
+        assert_eq!(rt; words.as_str(), "leg 1: no legal route leads to its end");
         Ok(())
     }
 }

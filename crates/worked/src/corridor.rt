@@ -39,8 +39,8 @@ fn draw<S: JumpSource>(source: &mut S) -> bool
     ensures stays { fits (S.JumpSource.meaning source.old) ≡ false → source.new ≡ source.old }
     ensures kept { S.JumpSource.lent source.old source.new }
 {
-    let (rows, cols) = source.size();
-    if rows != ROWS || cols != COLS {
+    let size = source.size();
+    if size.rows != ROWS || size.cols != COLS {
         return false;
     }
     open_all(source, &CELLS);

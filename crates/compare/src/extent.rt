@@ -1,0 +1,32 @@
+// A floor's size, and the cells that it has.
+use floor::Cell;
+
+#[derive(Clone, Copy)]
+pub struct Extent {
+    pub rows: usize,
+    pub cols: usize,
+}
+
+impl Extent {
+    // How many cells it has.
+    pub fn cells(self) -> usize {
+        self.rows.saturating_mul(self.cols)
+    }
+
+    // The cell at a place, counted row by row.
+    pub fn cell_at(self, place: usize) -> Cell {
+        let cols = self.cols.max(1);
+        Cell {
+            row: place / cols,
+            col: place % cols,
+        }
+    }
+
+    // With the row below and the column beside it, where the cells just outside lie.
+    pub fn widened(self) -> Extent {
+        Extent {
+            rows: self.rows.saturating_add(1),
+            cols: self.cols.saturating_add(1),
+        }
+    }
+}
