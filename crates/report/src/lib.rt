@@ -1,4 +1,4 @@
-// The texts that `quote` prints: a listing of what a sheet holds, or a refusal.
+// The texts that are printed of a sheet: what it holds, or why it is refused, whoever refuses.
 #![tactic(auto)]
 
 ghost use Rattle.std.specs.Prelude.{◌≡◌, IfOk, Some, string_bytes, codes};
