@@ -2,7 +2,7 @@
 use crate::extent::Extent;
 use octets::ByteSource;
 use packed::PackedSource;
-use source::{JumpSource, Size, SizeRefusal};
+use source::{Footprint, JumpSource, Size, SizeRefusal};
 use std::alloc::AllocError;
 use table::TableSource;
 

@@ -1,18 +1,12 @@
 -- What a write of a cell's byte does to the plan: no two cells inside share a byte.
-use Rattle.std.proofs.Common.{◌≡◌, ℕ, ◌+◌, ◌*◌, ◌/◌, ◌%◌, ◌<◌, ◌≤◌, Bool, true, false, cond, ◌&&◌, eqb, ltb, ◌≢◌, List, length, get_or, set, Some, None, sym, refl, ap, ◌∙◌, subst, inl, inr, arith, get_or-set_other, get_or-set_same}
-use Rattle.std.proofs.lemmas.Nat.{mul-add-lt, div-mul-add, mod-mul-add}
+use Rattle.std.proofs.Common.{◌≡◌, ℕ, ◌+◌, ◌*◌, ◌<◌, ◌≤◌, Bool, true, false, cond, ◌&&◌, eqb, ltb, ◌≢◌, List, length, get_or, set, Some, sym, refl, ap, ◌∙◌, subst, inl, inr, arith, get_or-set_other, get_or-set_same}
 use Rattle.std.proofs.lemmas.List.{drop-set-lt}
 use Rattle.std.proofs.lemmas.Bool.{cases_Bool, cases_eq, and_parts, and_cases, ltb-true, lt-ltb, eqb-true, eqb-false}
 use Rattle.floor.specs.declared.Cell.{Cell}
 use Rattle.floor.specs.Plans.{marked, closed}
-use Rattle.octets.specs.Layout.{plan_of, byte_of, written, Kept}
-
-pub byte_below : (rows cols r c : ℕ) → r < rows → c < cols → r * cols + c < rows * cols
-byte_below rows cols r c p q = omega (arith, mul-add-lt r cols c rows p q)
-
-same_byte : (cols r c r' c' : ℕ) → c < cols → c' < cols → r * cols + c ≡ r' * cols + c' → (r ≡ r') × (c ≡ c')
-same_byte cols r c r' c' p q e =
-    (sym (div-mul-add r cols c p) ∙ ap (λ k. k / cols) e ∙ div-mul-add r' cols c' q, sym (mod-mul-add r cols c p) ∙ ap (λ k. k % cols) e ∙ mod-mul-add r' cols c' q)
+use Rattle.source.specs.Indices.{index_in}
+use Rattle.source.proofs.Indices.{index_below, same_pair, placed}
+use Rattle.octets.specs.Layout.{plan_of, written, Kept}
 
 written_is : (b : Bool) → eqb (written b) 0 ≡ b
 written_is true = refl
@@ -27,7 +21,7 @@ module _ (rows cols : ℕ) (bytes : List ℕ) (x : Cell) (b : Bool) (r< : x.row 
   index = x.row * cols + x.col
 
   below : index < rows * cols
-  below = byte_below rows cols x.row x.col r< c<
+  below = index_below rows cols x.row x.col r< c<
 
   -- what one cell says after the write
   after_write : (r c : ℕ) →
@@ -49,7 +43,7 @@ module _ (rows cols : ℕ) (bytes : List ℕ) (x : Cell) (b : Bool) (r< : x.row 
           | inl within ↦
               let both = and_parts _ _ within in
               let apart : r * cols + c ≢ index = λ same.
-              let s = same_byte cols r c x.row x.col (ltb-true c cols both.1) c< same in
+              let s = same_pair cols r c x.row x.col (ltb-true c cols both.1) c< same in
               elim (and_cases _ _ e) [ inl f ↦ eqb-false _ _ f s.0 | inr f ↦ eqb-false _ _ f s.1 ] in
               ap (λ v. (ltb r rows && ltb c cols) && eqb v 0) (get_or-set_other bytes index (r * cols + c) (written b) 0 apart)
         ])
@@ -70,27 +64,8 @@ module _ (rows cols : ℕ) (bytes : List ℕ) (x : Cell) (b : Bool) (r< : x.row 
         | inr other ↦ subst (λ n. n ≤ 1) (sym (get_or-set_other bytes index k (written b) 0 other)) e
       ]
 
--- a cell that has a byte lies inside
-pub record Placed (rows cols : ℕ) (x : Cell) (i : ℕ) : Type 0 where
-  pub in_rows : x.row < rows
-  pub in_cols : x.col < cols
-  pub is_inside : (ltb x.row rows && ltb x.col cols) ≡ true
-  pub at : i ≡ x.row * cols + x.col
-
-pub placed : (rows cols : ℕ) (x : Cell) (i : ℕ) → Some i ≡ byte_of rows cols x → Placed rows cols x i
-placed rows cols x i e = elim (cases_Bool (ltb x.row rows && ltb x.col cols)) [
-  | inl within ↦
-      let both = and_parts _ _ within in
-      let is : Some i ≡ Some (x.row * cols + x.col) = e ∙ ap (λ b. cond b (Some (x.row * cols + x.col)) None) within in
-      record { in_rows = ltb-true _ _ both.0; in_cols = ltb-true _ _ both.1; is_inside = within; at = cc is }
-  | inr out ↦
-      let is : Some i ≡ None = e ∙ ap (λ b. cond b (Some (x.row * cols + x.col)) None) out in
-      let never : ◌≡◌ {A = ℕ} 0 1 = cc is in
-      absurd (omega arith)
-]
-
 -- writing that byte sets that cell, and no more than the plan's bytes change
-pub mark_by : (rows cols : ℕ) (bytes : List ℕ) (x : Cell) (b : Bool) (i v : ℕ) → Some i ≡ byte_of rows cols x → v ≡ written b → rows * cols ≤ length bytes →
+pub mark_by : (rows cols : ℕ) (bytes : List ℕ) (x : Cell) (b : Bool) (i v : ℕ) → Some i ≡ index_in rows cols x → v ≡ written b → rows * cols ≤ length bytes →
     (plan_of rows cols (set bytes i v) ≡ marked (plan_of rows cols bytes) x b) × Kept rows cols bytes (set bytes i v)
 mark_by rows cols bytes x b i v e w fits =
     let p = placed rows cols x i e in
@@ -106,6 +81,6 @@ ones_closed rows cols bytes ones = λ i. record { rows = rows; cols = cols; free
       | inr out ↦ rw out refl
       | inl within ↦
           let both = and_parts _ _ within in
-          let one : get_or bytes (r * cols + c) 0 ≡ 1 = ones (r * cols + c) (byte_below rows cols r c (ltb-true r rows both.0) (ltb-true c cols both.1)) in
+          let one : get_or bytes (r * cols + c) 0 ≡ 1 = ones (r * cols + c) (index_below rows cols r c (ltb-true r rows both.0) (ltb-true c cols both.1)) in
           rw (within, one) refl
     ]

@@ -10,7 +10,8 @@ use Rattle.source.specs.Sizes.{size_answer}
 use Rattle.source.specs.Drawing.{opened}
 use Rattle.octets.specs.Layout.{plan_of, written, Holds, Kept, New, Unmade, Made, Drawn}
 use Rattle.source.proofs.Laid.{Gets, enough, all_filled, rest_kept}
-use Rattle.octets.proofs.Cells.{byte_below, ones_closed}
+use Rattle.source.proofs.Indices.{index_below}
+use Rattle.octets.proofs.Cells.{ones_closed}
 
 plain_written : (v : ℕ) → v ≤ 1 → v ≡ written (eqb v 0)
 plain_written v l = elim (cases_Bool (eqb v 0)) [
@@ -26,7 +27,7 @@ plain_holds : (rows cols : ℕ) (bytes : List ℕ) → ((k : ℕ) → k < rows *
 plain_holds rows cols bytes plain r c p q =
     let row_in : ltb r rows ≡ true = lt-ltb r rows p in
     let col-in : ltb c cols ≡ true = lt-ltb c cols q in
-    rw (row_in, col-in) (plain_written (get_or bytes (r * cols + c) 0) (plain (r * cols + c) (byte_below rows cols r c p q)))
+    rw (row_in, col-in) (plain_written (get_or bytes (r * cols + c) 0) (plain (r * cols + c) (index_below rows cols r c p q)))
 
 -- Memory on which a plan of this size was made: as many bytes as the plan has cells were written as closed cells.
 module _ (rows cols : ℕ) (before written : List ℕ) (s : Size) (n : ℕ) (cells : n ≡ s.rows * s.cols) (filled : written ≡ replicate (length (take n before)) 1) where

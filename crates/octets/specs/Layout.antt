@@ -1,5 +1,5 @@
 -- How bytes stand for a plan: the cell in row r and column c has byte r × columns + c, and what lies past rows × columns belongs to others.
-use Rattle.std.specs.Prelude.{◌≡◌, ℕ, ◌+◌, ◌*◌, ◌<◌, ◌≤◌, Bool, true, false, cond, ◌&&◌, List, length, drop, Some, None, Option, MatchResult, ◌==◌, nat_lt, slice_index}
+use Rattle.std.specs.Prelude.{◌≡◌, ℕ, ◌+◌, ◌*◌, ◌<◌, ◌≤◌, Bool, true, false, ◌&&◌, List, length, drop, MatchResult, ◌==◌, nat_lt, slice_index}
 use Rattle.floor.specs.declared.Cell.{Cell}
 use Rattle.floor.specs.Plans.{Plan, closed}
 use Rattle.source.specs.Sizes.{size_answer}
@@ -8,10 +8,6 @@ use Rattle.source.specs.Drawing.{opened}
 -- the plan that bytes mean: a cell inside is open where its byte is 0, and every other byte is closed
 abbrev pub plan_of : ℕ → ℕ → List ℕ → Plan
 plan_of rows cols bytes = record { rows = rows; cols = cols; free = λ r c. (nat_lt r rows && nat_lt c cols) && (slice_index bytes (r * cols + c) == 0) }
-
--- the byte of a cell inside
-abbrev pub byte_of : ℕ → ℕ → Cell → Option ℕ
-byte_of rows cols c = cond (nat_lt c.row rows && nat_lt c.col cols) (Some (c.row * cols + c.col)) None
 
 -- what is written for a cell
 abbrev pub written : Bool → ℕ

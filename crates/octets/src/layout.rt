@@ -1,14 +1,13 @@
 // A plan on lent bytes: byte row × columns + column is 0 for an open cell and 1 for a closed one.
-ghost use Rattle.std.specs.Prelude.{◌≡◌, ◌*◌, ◌≤◌, IfOk, length, refl};
-ghost use Rattle.std.specs.Result.{result_map_both};
+ghost use Rattle.std.specs.Prelude.{◌≡◌, ◌*◌, ◌≤◌, true, length, refl};
 ghost use Rattle.std.proofs.Common.{◌∙◌};
-ghost use Rattle.source.specs.Sizes.{size_answer};
+ghost use Rattle.source.specs.Sizes.{within_limits};
 ghost use Rattle.source.specs.Within.{sized_plan};
 ghost use Rattle.octets.specs.Layout.{plan_of, Kept, Made};
 ghost use Rattle.octets.specs.Laws.{kept_same, kept_on};
 
 use floor::Cell;
-use source::{Ground, JumpSource, OnMemory, Size, SizeRefusal, size_check};
+use source::{Footprint, Ground, JumpSource, OnMemory, Size};
 
 const OPEN: u8 = 0;
 
@@ -23,14 +22,6 @@ pub struct ByteSource<'a> {
 }
 
 impl<'a> ByteSource<'a> {
-    // The size of a plan of so many rows and columns, if it can be laid on so many bytes.
-    pub fn check(rows: usize, cols: usize, bytes: usize) -> Result<Size, SizeRefusal>
-        ensures answer { result_map_both (λ _. tt) (λ e. e) result ≡ size_answer rows cols bytes (rows * cols) }
-        ensures size { IfOk result (λ s. (s.rows ≡ rows) × (s.cols ≡ cols)) }
-    {
-        size_check(rows, cols, bytes, rows.saturating_mul(cols))
-    }
-
     // A new plan of this size, all closed; where the check refuses, the plan of no rows and no columns.
     pub fn make(memory: &'a mut [u8], rows: usize, cols: usize) -> ByteSource<'a>
         ensures plan { Made rows cols memory.old (plan_of result.size.rows result.size.cols result.bytes.now) result.bytes.now }
@@ -57,6 +48,8 @@ impl<'a> Ground for ByteSource<'a> {
     }
 }
 
+// Kept: size, openness and jumps are handed on here and in `packed` alike, since one impl for all that is ground conflicts with that for a
+// lent source; and the plan is told to both traits, since no impl can cite what another says of its type.
 impl<'a> JumpSource for ByteSource<'a> {
     ghost meaning = { λ s. plan_of s.size.rows s.size.cols s.bytes.now };
 
@@ -89,18 +82,20 @@ impl<'a> JumpSource for ByteSource<'a> {
     }
 }
 
+impl<'a> Footprint for ByteSource<'a> {
+    ghost needed = { λ rows cols. rows * cols };
+
+    fn words_for(rows: usize, cols: usize) -> usize
+        ensures { within_limits rows cols ≡ true → result ≡ rows * cols }
+    {
+        rows.saturating_mul(cols)
+    }
+}
+
 impl<'a> OnMemory<'a> for ByteSource<'a> {
     type Word = u8;
 
-    ghost needed = { λ rows cols. rows * cols };
-
-    fn check(rows: usize, cols: usize, bytes: usize) -> Result<Size, SizeRefusal>
-        ensures answer { result_map_both (λ _. tt) (λ e. e) result ≡ size_answer rows cols bytes (rows * cols) }
-        ensures size { IfOk result (λ s. (s.rows ≡ rows) × (s.cols ≡ cols)) }
-    {
-        ByteSource::check(rows, cols, bytes)
-    }
-
+    // Kept: `make` of the source itself promises more, so it has the body, and this one hands on to it.
     fn make(memory: &'a mut [u8], rows: usize, cols: usize) -> ByteSource<'a> {
         ByteSource::make(memory, rows, cols)
     }

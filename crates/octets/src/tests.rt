@@ -1,7 +1,7 @@
 // Jumps and labels on a floor of three rows and five columns that has one pillar, in the top row.
 use crate::layout::ByteSource;
 use floor::Cell;
-use source::{JumpSource, SizeRefusal, labels};
+use source::{Footprint, JumpSource, SizeRefusal, labels};
 
 // Everything open but the second cell of the top row.
 fn one_pillar(memory: &mut [u8]) -> ByteSource<'_> {

@@ -1,11 +1,12 @@
 -- What a write of one bit does: no two places of a half share a bit, and the two halves share no word.
 use Rattle.std.proofs.Common.{◌≡◌, ℕ, ◌+◌, ◌*◌, ◌/◌, ◌%◌, ◌<◌, ◌≤◌, Bool, true, false, cond, not, ◌&&◌, eqb, ltb, ◌≢◌, List, length, get_or, drop, set, sym, refl, ap, ◌∙◌, subst, inl, inr, arith, get_or-set_other, get_or-set_same}
 use mathlib.Core.Bool.{not-not}
-use Rattle.std.proofs.lemmas.Nat.{mul-add-lt, div-mul-add, mod-mul-add}
+use Rattle.std.proofs.lemmas.Nat.{mul-add-lt}
 use Rattle.std.proofs.lemmas.List.{drop-set-lt, length-set}
 use Rattle.std.proofs.lemmas.Bool.{cases_Bool, cases_eq, and_parts, and_cases, and_left, and_right, ltb-true, ltb-false, lt-ltb, eq-eqb, ne_eqb, eqb-true}
 use Rattle.floor.specs.declared.Cell.{Cell}
 use Rattle.floor.specs.Plans.{is_open, marked}
+use Rattle.source.proofs.Indices.{same_pair}
 use Rattle.packed.specs.declared.halves.Half.{Half}
 use Rattle.packed.specs.Bits.{bit}
 use Rattle.packed.specs.Layout.{line_words, by_rows, by_cols, words_needed, word_of, shut, plan_of, Laid}
@@ -15,10 +16,6 @@ use Rattle.packed.specs.Layout.{line_words, by_rows, by_cols, words_needed, word
 -- the words of a half lie together
 pub word_in : (h : Half) (l i : ℕ) → l < h.lines → i < 64 * line_words h.long → word_of h l i < h.from + h.lines * line_words h.long
 word_in h l i p q = omega (arith, mul-add-lt l (line_words h.long) (i / 64) h.lines p (omega arith))
-
-same_place : (w l a l' a' : ℕ) → a < w → a' < w → l * w + a ≡ l' * w + a' → (l ≡ l') × (a ≡ a')
-same_place w l a l' a' p q e =
-    (sym (div-mul-add l w a p) ∙ ap (λ k. k / w) e ∙ div-mul-add l' w a' q, sym (mod-mul-add l w a p) ∙ ap (λ k. k % w) e ∙ mod-mul-add l' w a' q)
 
 -- ---- writing one bit of a half
 
@@ -38,7 +35,7 @@ module _ (words : List ℕ) (h : Half) (l i w : ℕ) (b : Bool) where
   unfolding shut
   written within i< turned l' i' i'< = elim (cases_eq (word_of h l' i') (word_of h l i)) [
     | inl same ↦
-        let at = same_place (line_words h.long) l' (i' / 64) l (i / 64) (omega arith) (omega arith) (omega arith) in
+        let at = same_pair (line_words h.long) l' (i' / 64) l (i / 64) (omega arith) (omega arith) (omega arith) in
         let read : get_or (set words (word_of h l i) w) (word_of h l' i') 0 ≡ w = ap (λ k. get_or (set words (word_of h l i) w) k 0) same ∙ get_or-set_same words (word_of h l i) w 0 within in
         let here : eqb (i' % 64) (i % 64) ≡ (eqb l' l && eqb i' i) = same_bit i' at.1 ∙ sym (ap (λ t. t && eqb i' i) (eq-eqb l' l at.0)) in
         ap (λ v. bit v (i' % 64)) read ∙ turned (i' % 64) (omega arith) ∙

@@ -1,9 +1,8 @@
 // A plan on lent words, by rows and by columns: a set bit is a closed cell.
-ghost use Rattle.std.specs.Prelude.{◌≡◌, ◌<◌, ◌≤◌, Bool, true, IfOk, length, drop, refl};
-ghost use Rattle.std.specs.Result.{result_map_both};
+ghost use Rattle.std.specs.Prelude.{◌≡◌, ◌<◌, ◌≤◌, Bool, true, length, drop, refl};
 ghost use Rattle.std.proofs.Common.{◌∙◌};
 ghost use Rattle.floor.specs.Plans.{marked};
-ghost use Rattle.source.specs.Sizes.{size_answer};
+ghost use Rattle.source.specs.Sizes.{within_limits};
 ghost use Rattle.source.specs.Within.{sized_plan};
 ghost use Rattle.packed.specs.Layout.{words_needed, plan_of, Laid, Kept, Made};
 ghost use Rattle.packed.specs.Laws.{kept_same, kept_on};
@@ -13,7 +12,7 @@ use crate::halves::{Half, WORD, words_needed};
 use crate::scans::{is_upright, scan, way_of};
 use crate::words::{is_set, with_bit};
 use floor::{Cell, Heading};
-use source::{Ground, JumpSource, OnMemory, Size, SizeRefusal, size_check};
+use source::{Footprint, Ground, JumpSource, OnMemory, Size};
 
 // The words past those that the plan needs are never written.
 #[derive(Drop)]
@@ -24,14 +23,6 @@ pub struct PackedSource<'a> {
 }
 
 impl<'a> PackedSource<'a> {
-    // The size of a plan of so many rows and columns, if it can be laid on so many words.
-    pub fn check(rows: usize, cols: usize, words: usize) -> Result<Size, SizeRefusal>
-        ensures answer { result_map_both (λ _. tt) (λ e. e) result ≡ size_answer rows cols words (words_needed rows cols) }
-        ensures size { IfOk result (λ s. (s.rows ≡ rows) × (s.cols ≡ cols)) }
-    {
-        size_check(rows, cols, words, words_needed(rows, cols))
-    }
-
     // A new plan of this size, all closed; where the check refuses, the plan of no rows and no columns.
     pub fn make(memory: &'a mut [u64], rows: usize, cols: usize) -> PackedSource<'a>
         ensures plan { Made rows cols memory.old (plan_of result.size.rows result.size.cols result.words.now) result.words.now }
@@ -93,6 +84,8 @@ impl<'a> Ground for PackedSource<'a> {
     }
 }
 
+// Kept: size, openness and jumps are handed on here and in `octets` alike, since one impl for all that is ground conflicts with that for a
+// lent source; and the plan is told to both traits, since no impl can cite what another says of its type.
 impl<'a> JumpSource for PackedSource<'a> {
     ghost meaning = { λ s. plan_of s.size.rows s.size.cols s.words.now };
 
@@ -125,18 +118,20 @@ impl<'a> JumpSource for PackedSource<'a> {
     }
 }
 
+impl<'a> Footprint for PackedSource<'a> {
+    ghost needed = { words_needed };
+
+    fn words_for(rows: usize, cols: usize) -> usize
+        ensures { within_limits rows cols ≡ true → result ≡ words_needed rows cols }
+    {
+        words_needed(rows, cols)
+    }
+}
+
 impl<'a> OnMemory<'a> for PackedSource<'a> {
     type Word = u64;
 
-    ghost needed = { words_needed };
-
-    fn check(rows: usize, cols: usize, words: usize) -> Result<Size, SizeRefusal>
-        ensures answer { result_map_both (λ _. tt) (λ e. e) result ≡ size_answer rows cols words (words_needed rows cols) }
-        ensures size { IfOk result (λ s. (s.rows ≡ rows) × (s.cols ≡ cols)) }
-    {
-        PackedSource::check(rows, cols, words)
-    }
-
+    // Kept: `make` of the source itself promises more, so it has the body, and this one hands on to it.
     fn make(memory: &'a mut [u64], rows: usize, cols: usize) -> PackedSource<'a> {
         PackedSource::make(memory, rows, cols)
     }

@@ -27,8 +27,9 @@ pub fn goings_from_place<S: JumpSource>(source: &S, cell: Cell, arrival: Heading
         let left = including(ahead, arrival.turn(Side::Left));
         including(left, arrival.turn(Side::Right))
     } else {
-        let left = including_side(ahead, source, cell, arrival, Side::Left);
-        including_side(left, source, cell, arrival, Side::Right)
+        let at = StraightPlace { cell, arrival };
+        let left = at.including_side(ahead, source, Side::Left);
+        at.including_side(left, source, Side::Right)
     }
 }
 
@@ -41,45 +42,47 @@ fn including(on: [bool; 8], heading: Heading) -> [bool; 8]
     more
 }
 
-// The two headings more that a stop on a side opens up, if there is one.
-fn including_side<S: JumpSource>(
-    on: [bool; 8],
-    source: &S,
+// A place that is reached with a straight heading.
+#[derive(Clone, Copy)]
+struct StraightPlace {
     cell: Cell,
     arrival: Heading,
-    side: Side,
-) -> [bool; 8]
-    requires { diagonal arrival ≡ false }
-    ensures { (g : Course) → taken result g ≡ (opened (S.JumpSource.meaning source.now) (point cell) arrival g side || taken on g) }
-{
-    if is_stop(source, cell, arrival, side) {
-        including(including(on, aside(arrival, side)), arrival.turn(side))
-    } else {
-        on
+    ghost straight: { diagonal arrival ≡ false },
+}
+
+impl StraightPlace {
+    // The two headings more that a stop on a side opens up, if there is one.
+    fn including_side<S: JumpSource>(self, on: [bool; 8], source: &S, side: Side) -> [bool; 8]
+        ensures { (g : Course) → taken result g ≡ (opened (S.JumpSource.meaning source.now) (point self.cell) self.arrival g side || taken on g) }
+    {
+        if self.is_stop(source, side) {
+            including(including(on, self.aside(side)), self.arrival.turn(side))
+        } else {
+            on
+        }
     }
-}
 
-// Whether a straight step that ends at the cell makes it a stop on a side: the cell beside it is open, the one beside the cell before is not.
-fn is_stop<S: JumpSource>(source: &S, cell: Cell, arrival: Heading, side: Side) -> bool
-    requires { diagonal arrival ≡ false }
-    ensures { result ≡ stop (opens (S.JumpSource.meaning source.now)) (step (opposite arrival) (point cell)) arrival side }
-{
-    is_open_on(source, cell, aside(arrival, side))
-        && !is_open_on(source, cell, behind(arrival, side))
-}
+    // Whether the step that ends here makes the cell a stop on a side: the cell beside it is open, the one beside the cell before is not.
+    fn is_stop<S: JumpSource>(self, source: &S, side: Side) -> bool
+        ensures { result ≡ stop (opens (S.JumpSource.meaning source.now)) (step (opposite self.arrival) (point self.cell)) self.arrival side }
+    {
+        is_open_on(source, self.cell, self.aside(side))
+            && !is_open_on(source, self.cell, self.behind(side))
+    }
 
-// Straight to a side.
-fn aside(arrival: Heading, side: Side) -> Heading
-    ensures { result ≡ turn side (turn side arrival) }
-{
-    arrival.turn(side).turn(side)
-}
+    // Straight to a side.
+    fn aside(self, side: Side) -> Heading
+        ensures { result ≡ turn side (turn side self.arrival) }
+    {
+        self.arrival.turn(side).turn(side)
+    }
 
-// To a side and back by one: beside the cell before.
-fn behind(arrival: Heading, side: Side) -> Heading
-    ensures { result ≡ turn side (turn side (turn side arrival)) }
-{
-    aside(arrival, side).turn(side)
+    // To a side and back by one: beside the cell before.
+    fn behind(self, side: Side) -> Heading
+        ensures { result ≡ turn side (turn side (turn side self.arrival)) }
+    {
+        self.aside(side).turn(side)
+    }
 }
 
 // Whether the cell one step on is open.

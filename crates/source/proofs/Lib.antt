@@ -1,3 +1,4 @@
 pub mod Walks
 pub mod LabelLaws
 pub mod Laid
+pub mod Indices

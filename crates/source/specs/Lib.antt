@@ -1,4 +1,5 @@
 pub mod Few
+pub mod Indices
 pub mod Ground
 pub mod Labels
 pub mod Sizes

@@ -1,6 +1,7 @@
 // The size of a plan, and the cells inside.
-ghost use Rattle.std.specs.Prelude.{◌≡◌, ◌+◌, ◌*◌, ◌<◌, ◌&&◌, IfOk, IfSome, Some, None, cond, nat_lt};
+ghost use Rattle.std.specs.Prelude.{◌≡◌, ◌*◌, ◌<◌, ◌&&◌, IfSome, nat_lt};
 ghost use Rattle.source.specs.Few.{Few};
+ghost use Rattle.source.specs.Indices.{index_in, ItsOwn, NoneLeftOut};
 
 use floor::Cell;
 
@@ -29,10 +30,12 @@ impl Size {
         cell.row < self.rows && cell.col < self.cols
     }
 
-    // Where a cell inside stands among all cells, row by row.
+    // Where a cell inside stands among all cells, row by row: no two cells have one index, and no index is left out.
     pub fn index_of(self, cell: Cell) -> Option<usize>
-        ensures at { result ≡ cond (nat_lt cell.row self.rows && nat_lt cell.col self.cols) (Some (cell.row * self.cols + cell.col)) None }
+        ensures at { result ≡ index_in self.rows self.cols cell }
         ensures within { IfSome result (λ i. i < self.rows * self.cols) }
+        ensures own { ItsOwn self.rows self.cols cell result }
+        ensures all { NoneLeftOut self.rows self.cols }
     {
         if self.holds(cell) {
             Some(cell.row * self.cols + cell.col)

@@ -8,6 +8,7 @@ ghost use Rattle.source.specs.Ground.{clear_of_corners, side_opens, stops_at, Le
 use floor::{Cell, Heading, Side};
 
 // A source that is ground gives `is_free`; one that finds straight jumps faster than step by step gives `straight_jump` too.
+// Kept: cell and heading are two parameters. Nothing holds of the pair, and each question is about another, which would be made for it and taken apart.
 pub trait Ground {
     ghost plan: { Self → Plan };
 

@@ -14,6 +14,6 @@ pub use drawing::open_all;
 pub use extents::Size;
 pub use ground::Ground;
 pub use labelling::{label, labels, read_label};
-pub use memory::OnMemory;
+pub use memory::{Footprint, OnMemory};
 pub use sizes::{SizeRefusal, size_check};
 pub use traits::JumpSource;

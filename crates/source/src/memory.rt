@@ -1,26 +1,36 @@
 // Sources that are made on memory which is lent to them.
-ghost use Rattle.std.specs.Prelude.{◌≡◌, ℕ, length, IfOk};
-ghost use Rattle.std.specs.Result.{result_map_both};
-ghost use Rattle.source.specs.Sizes.{size_answer, plan_made};
+ghost use Rattle.std.specs.Prelude.{◌≡◌, ℕ, true, length};
+ghost use Rattle.source.specs.Sizes.{within_limits, Checked, plan_made};
 
 use crate::extents::Size;
-use crate::sizes::SizeRefusal;
+use crate::sizes::{SizeRefusal, size_check};
 use crate::traits::JumpSource;
 
+// What a plan takes of memory. It is a trait of its own, since one with a lifetime, as that below, may give no function its body yet.
 // Kept: rows and columns are two numbers, since any two may be asked; a `Size` would ask more.
-pub trait OnMemory<'a>: JumpSource {
-    // What the memory consists of.
-    type Word;
-
+pub trait Footprint {
     // How many words of memory a plan takes.
     ghost needed: { ℕ → ℕ → ℕ };
 
+    // As many, for a plan within the limits; beyond them it may answer any number.
+    fn words_for(rows: usize, cols: usize) -> usize
+        ensures { within_limits rows cols ≡ true → result ≡ needed rows cols };
+
     // The size of a plan of so many rows and columns, if it can be laid on so many words.
     fn check(rows: usize, cols: usize, words: usize) -> Result<Size, SizeRefusal>
-        ensures answer { result_map_both (λ _. tt) (λ e. e) result ≡ size_answer rows cols words (needed rows cols) }
-        ensures size { IfOk result (λ s. (s.rows ≡ rows) × (s.cols ≡ cols)) };
+        ensures { Checked rows cols words (needed rows cols) result }
+    {
+        size_check(rows, cols, words, Self::words_for(rows, cols))
+    }
+}
+
+// A source that is made on memory which is lent to it.
+// Kept: rows and columns are two numbers here too.
+pub trait OnMemory<'a>: JumpSource + Footprint {
+    // What the memory consists of.
+    type Word;
 
     // A new plan, all closed; where the check refuses, the plan of no rows and no columns.
     fn make(memory: &'a mut [Self::Word], rows: usize, cols: usize) -> Self
-        ensures { Self.meaning result ≡ plan_made rows cols (length memory.old) (needed rows cols) };
+        ensures { Self.JumpSource.meaning result ≡ plan_made rows cols (length memory.old) (Self.Footprint.needed rows cols) };
 }

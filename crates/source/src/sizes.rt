@@ -1,7 +1,6 @@
 // The size check that every source puts before it is made.
-ghost use Rattle.std.specs.Prelude.{◌≡◌, IfOk};
-ghost use Rattle.std.specs.Result.{result_map_both};
-ghost use Rattle.source.specs.Sizes.{size_number, size_answer};
+ghost use Rattle.std.specs.Prelude.{◌≡◌};
+ghost use Rattle.source.specs.Sizes.{size_number, Checked};
 
 use crate::extents::Size;
 
@@ -27,8 +26,7 @@ const LIMIT: usize = 128;
 
 // The size of a plan of so many rows and columns, if it can be made where `have` entries of memory are lent and the source takes `need` of them.
 pub fn size_check(rows: usize, cols: usize, have: usize, need: usize) -> Result<Size, SizeRefusal>
-    ensures answer { result_map_both (λ _. tt) (λ e. e) result ≡ size_answer rows cols have need }
-    ensures size { IfOk result (λ s. (s.rows ≡ rows) × (s.cols ≡ cols)) }
+    ensures { Checked rows cols have need result }
 {
     if rows < 1 || rows > LIMIT || cols < 1 || cols > LIMIT {
         return Err(SizeRefusal::Extent);

@@ -1,8 +1,8 @@
 -- Where the numbers of a cell lie: within the needed part, and apart from those of every other cell. So a write changes one label, or the openness of one cell, and nothing else.
-use Rattle.std.proofs.Common.{◌≡◌, ℕ, ◌+◌, ◌*◌, ◌/◌, ◌%◌, ◌<◌, ◌≤◌, true, false, cond, ◌&&◌, eqb, ltb, ◌≢◌, ◌⊎◌, List, length, get_or, Option, set, ℤ, pos, negsuc, sym, refl, ap, ◌∙◌, subst, inl, inr, arith}
+use Rattle.std.proofs.Common.{◌≡◌, ℕ, ◌+◌, ◌*◌, ◌<◌, ◌≤◌, true, false, cond, ◌&&◌, eqb, ltb, ◌≢◌, ◌⊎◌, List, length, get_or, Option, set, ℤ, pos, negsuc, sym, refl, ap, ◌∙◌, subst, inl, inr, arith}
 use Rattle.std.proofs.lemmas.Bool.{cases_Bool, and_parts, and_from, and_left, ltb-true, lt-ltb}
 use Rattle.std.proofs.lemmas.List.{get_or-set_same, get_or-set_other, drop-set-lt}
-use Rattle.std.proofs.lemmas.Nat.{mul-add-lt, div-mul-add, mod-mul-add}
+use Rattle.std.proofs.lemmas.Nat.{mul-add-lt}
 use Rattle.floor.specs.declared.Cell.{Cell}
 use Rattle.floor.specs.declared.Heading.{Heading}
 use Rattle.floor.specs.Plane.{Point, point, number, step}
@@ -10,6 +10,7 @@ use Rattle.floor.specs.Plans.{opens}
 use Rattle.floor.proofs.Plane.{each}
 use Rattle.floor.proofs.Jumps.{closed_stays}
 use Rattle.source.specs.declared.extents.Size.{Size}
+use Rattle.source.proofs.Indices.{same_pair}
 use Rattle.table.specs.Layout.{Placed, plan_of, needed, begins}
 use Rattle.table.specs.Equations.{dead, one_on, label_of_point, ends, due, Holds, Relabelled}
 
@@ -40,10 +41,8 @@ within_needed rows cols c n i b = omega (arith, mul-add-lt c.row cols c.col rows
 -- and no two cells share one
 pub apart : (cols : ℕ) (c d : Cell) (n m : ℕ) → c.col < cols → d.col < cols → n < 9 → m < 9 → begins cols c + n ≡ begins cols d + m → (c ≡ d) × (n ≡ m)
 apart cols c d n m f g a b e =
-    let same : c.row * cols + c.col ≡ d.row * cols + d.col = omega arith in
-    let row : c.row ≡ d.row = sym (div-mul-add c.row cols c.col f) ∙ ap (λ k. k / cols) same ∙ div-mul-add d.row cols d.col g in
-    let col : c.col ≡ d.col = sym (mod-mul-add c.row cols c.col f) ∙ ap (λ k. k % cols) same ∙ mod-mul-add d.row cols d.col g in
-    ((λ i. record { row = row i; col = col i }), omega arith)
+    let same = same_pair cols c.row c.col d.row d.col f g (omega arith) in
+    ((λ i. record { row = same.0 i; col = same.1 i }), omega (arith, same.0, same.1))
 
 -- ---- points
 

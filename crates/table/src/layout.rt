@@ -1,10 +1,9 @@
 // A plan on lent numbers, nine to a cell: its eight labels, in the order of the headings, then 1 if it is open and 0 if not.
-ghost use Rattle.std.specs.Prelude.{◌≡◌, ℕ, ◌%◌, ◌<◌, ◌≤◌, length, drop, if◌then◌else◌, nat_eq, slice_index, refl, IfOk};
-ghost use Rattle.std.specs.Result.{result_map_both};
+ghost use Rattle.std.specs.Prelude.{◌≡◌, ℕ, ◌%◌, ◌<◌, ◌≤◌, length, drop, if◌then◌else◌, nat_eq, slice_index, refl, true};
 ghost use Rattle.std.proofs.Common.{◌∙◌};
 ghost use Rattle.floor.specs.Jumps.{jump_of};
 ghost use Rattle.source.specs.Labels.{label_of};
-ghost use Rattle.source.specs.Sizes.{size_answer};
+ghost use Rattle.source.specs.Sizes.{within_limits};
 ghost use Rattle.table.specs.Layout.{needed, plan_of, Defined, Made};
 ghost use Rattle.source.specs.Within.{sized_plan};
 ghost use Rattle.table.specs.Laws.{kept_on};
@@ -12,7 +11,7 @@ ghost use Rattle.table.specs.Laws.{kept_on};
 use crate::mending::Table;
 use crate::reading::{DEAD, View};
 use floor::{Cell, Heading};
-use source::{Ground, JumpSource, OnMemory, Size, SizeRefusal, read_label, size_check};
+use source::{Footprint, Ground, JumpSource, OnMemory, Size, read_label};
 
 // The ninth number of a closed cell.
 const CLOSED: u16 = 0;
@@ -27,19 +26,6 @@ pub struct TableSource<'a> {
 }
 
 impl<'a> TableSource<'a> {
-    // The size of a plan of so many rows and columns, if it can be laid on so many numbers.
-    pub fn check(rows: usize, cols: usize, numbers: usize) -> Result<Size, SizeRefusal>
-        ensures answer { result_map_both (λ _. tt) (λ e. e) result ≡ size_answer rows cols numbers (needed rows cols) }
-        ensures size { IfOk result (λ s. (s.rows ≡ rows) × (s.cols ≡ cols)) }
-    {
-        size_check(
-            rows,
-            cols,
-            numbers,
-            rows.saturating_mul(cols).saturating_mul(9),
-        )
-    }
-
     // A new plan of this size, all closed; where the check refuses, the plan of no rows and no columns.
     pub fn make(memory: &'a mut [u16], rows: usize, cols: usize) -> TableSource<'a>
         ensures plan { Made rows cols memory.old (plan_of result.size.rows result.size.cols result.numbers.now) result.numbers.now }
@@ -53,6 +39,7 @@ impl<'a> TableSource<'a> {
         }
     }
 
+    // Kept: a table has these lines too. A view is made by its two fields as they stand, and no function for both would spare either its promise.
     fn view(&self) -> View<'_>
         ensures { (result.size ≡ self.now.size) × (result.numbers.now ≡ self.now.numbers.now) }
     {
@@ -130,18 +117,20 @@ impl<'a> JumpSource for TableSource<'a> {
     }
 }
 
+impl<'a> Footprint for TableSource<'a> {
+    ghost needed = { needed };
+
+    fn words_for(rows: usize, cols: usize) -> usize
+        ensures { within_limits rows cols ≡ true → result ≡ needed rows cols }
+    {
+        rows.saturating_mul(cols).saturating_mul(9)
+    }
+}
+
 impl<'a> OnMemory<'a> for TableSource<'a> {
     type Word = u16;
 
-    ghost needed = { needed };
-
-    fn check(rows: usize, cols: usize, numbers: usize) -> Result<Size, SizeRefusal>
-        ensures answer { result_map_both (λ _. tt) (λ e. e) result ≡ size_answer rows cols numbers (needed rows cols) }
-        ensures size { IfOk result (λ s. (s.rows ≡ rows) × (s.cols ≡ cols)) }
-    {
-        TableSource::check(rows, cols, numbers)
-    }
-
+    // Kept: `make` of the source itself promises more, so it has the body, and this one hands on to it.
     fn make(memory: &'a mut [u16], rows: usize, cols: usize) -> TableSource<'a> {
         TableSource::make(memory, rows, cols)
     }

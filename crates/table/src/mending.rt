@@ -41,6 +41,8 @@ pub struct Table<'n> {
 impl<'n> Table<'n> {
     ghost use Rattle.table.specs.Tables.{Stays, MendsOn, seed_at, seeds_around};
 
+    // Kept: the source has these lines too. With the view made in `put_right`, the one place that asks for it here, the check did not
+    // know any more, once the view was let go, that the numbers were as before.
     fn view(&self) -> View<'_>
         ensures { (result.size ≡ self.now.size) × (result.numbers.now ≡ self.now.numbers.now) }
     {

@@ -33,6 +33,7 @@ impl<'t> Ground for View<'t> {
     }
 }
 
+// Kept: cell and heading are two parameters, as in `Ground`.
 impl<'t> View<'t> {
     ghost use Rattle.table.specs.Views.{label_in, ends_at, due_at};
 

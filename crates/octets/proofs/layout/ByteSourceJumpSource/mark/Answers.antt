@@ -1,7 +1,8 @@
 use Rattle.std.proofs.Common.{◌≡◌, sym, refl, ap, ◌∙◌}
 use Rattle.std.proofs.lemmas.Bool.{both_ways}
 use Rattle.octets.specs.Layout.{written}
-use Rattle.octets.proofs.Cells.{placed, mark_by}
+use Rattle.source.proofs.Indices.{placed}
+use Rattle.octets.proofs.Cells.{mark_by}
 use Rattle.octets.proofs.layout.ByteSourceJumpSource.mark.Goals as goal
 use Rattle.octets.proofs.layout.ByteSourceJumpSource.mark.Goals.{then-open, else-open}
 

@@ -1,11 +1,18 @@
-use Rattle.std.proofs.Common.{◌≡◌, true, ltb, sym, ◌∙◌, arith}
-use Rattle.std.proofs.lemmas.Bool.{and_parts, ltb-true}
-use Rattle.std.proofs.lemmas.Nat.{mul-add-lt}
+use Rattle.std.proofs.Common.{sym}
+use Rattle.std.proofs.lemmas.Bool.{cond-true}
+use Rattle.source.proofs.Indices.{placed, index_below, its_own, none_left_out}
 use Rattle.source.proofs.extents.Size.index_of.Goals as goal
 
 pub returns-then-holds-clause-within : goal.returns-then-holds-clause-within
 returns-then-holds-clause-within c =
-    let s = c.args.self in
-    let at = c.args.cell in
-    let inside : (ltb at.row s.rows ≡ true) × (ltb at.col s.cols ≡ true) = and_parts _ _ (sym c.holds.ensures ∙ c.if-holds.true) in
-    omega (arith, mul-add-lt at.row s.cols at.col s.rows (ltb-true _ _ inside.0) (ltb-true _ _ inside.1))
+    let at = placed c.args.self.rows c.args.self.cols c.args.cell _ (sym (cond-true _ _ _ (sym c.if-holds.ensures))) in
+    index_below _ _ _ _ at.in_rows at.in_cols
+
+pub returns-then-holds-clause-own : goal.returns-then-holds-clause-own
+returns-then-holds-clause-own c = its_own c.args.self.rows c.args.self.cols c.args.cell _ (sym (cond-true _ _ _ (sym c.if-holds.ensures)))
+
+pub returns-then-holds-clause-all : goal.returns-then-holds-clause-all
+returns-then-holds-clause-all c = none_left_out c.args.self.rows c.args.self.cols
+
+pub returns-else-holds-clause-all : goal.returns-else-holds-clause-all
+returns-else-holds-clause-all c = none_left_out c.args.self.rows c.args.self.cols
