@@ -15,6 +15,13 @@ use Rattle.listing.specs.Millimetres.{refusal, Figure}
 use Rattle.listing.specs.Lines.{of_leg, or_later, first_refused, Measures, plus_amount, in_all, values, leg_lines, names_line, listing_text, listing_refusal}
 use Rattle.listing.proofs.Figures.{enough}
 
+-- as many amounts as legs
+pub as_many : (s : ℕ) (xs : List Counts) (items : List Amount) → Measures s xs items → length items ≡ length xs
+as_many s [] [] m = refl
+as_many s [] (a ∷ items) m = absurd m
+as_many s (x ∷ xs) [] m = absurd m
+as_many s (x ∷ xs) (a ∷ items) m = ap suc (as_many s xs items m.1)
+
 -- one leg more is measured
 pub measures_more : (s : ℕ) (xs : List Counts) (items : List Amount) (x : Counts) (a : Amount) → Measures s xs items → (a.counts ≡ x) → Figure s x a.millimetres → Measures s (xs ++ x ∷ []) (items ++ a ∷ [])
 measures_more s [] [] x a m e f = ((e, f), tt)

@@ -1,5 +1,5 @@
 // The listing of a loop, leg by leg, at the front of a lent buffer.
-ghost use Rattle.std.specs.Prelude.{◌≡◌, ◌+◌, ◌^◌, ◌<◌, ◌≤◌, ◌++◌, length, take, Some, None, decimal, MatchResult};
+ghost use Rattle.std.specs.Prelude.{◌≡◌, ◌+◌, ◌^◌, ◌<◌, ◌≤◌, ◌++◌, List, length, Some, None, decimal, MatchResult};
 ghost use Rattle.writing.specs.Fronts.{Fits, Added};
 ghost use Rattle.listing.specs.declared.millimetres.Refusal.{Refusal as Refused};
 ghost use Rattle.listing.specs.Millimetres.{refusal, Figure};
@@ -8,7 +8,7 @@ ghost use Rattle.listing.specs.Lines.{listing_number, listing_leg, of_leg, first
 use crate::millimetres::{Refusal, millimetres};
 use floor::Counts;
 use std::ops::Add;
-use writing::Page;
+use writing::{Front, Page};
 
 // A loop has at least this many legs, and at most so many.
 const FEWEST_LEGS: usize = 2;
@@ -141,16 +141,20 @@ fn put_listing(page: &mut Page, amounts: &[Amount], total: Amount)
     put_values(page, total);
 }
 
-// The amount of each leg goes to the front of a list, and that of all is answered.
-fn measure(side: u32, legs: &[Counts], amounts: &mut [Amount]) -> Result<Amount, ListingRefusal>
+// The amount of each leg is written to a list, and that of all is answered.
+fn measure(
+    side: u32,
+    legs: &[Counts],
+    amounts: &mut Front<'_, Amount>,
+) -> Result<Amount, ListingRefusal>
     requires few { length legs.now ≤ 64 }
-    requires room { length legs.now ≤ length amounts.old }
-    ensures { MatchResult result (λ total. (first_refused side 1 legs.now ≡ None) × Measures side legs.now (take (length legs.now) amounts.new) × (total ≡ in_all (take (length legs.now) amounts.new))) (λ e. first_refused side 1 legs.now ≡ Some e) }
+    requires room { amounts.old.len + length legs.now ≤ length amounts.old.list.now }
+    ensures { MatchResult result (λ total. (items : List Amount) × (first_refused side 1 legs.now ≡ None) × Measures side legs.now items × (total ≡ in_all items) × Added amounts.old items amounts.new) (λ e. first_refused side 1 legs.now ≡ Some e) }
 {
     let mut total = NOTHING;
     for (i, counts) in legs.iter().enumerate() {
         let amount = amount_of(side, i + 1, *counts)?;
-        amounts[i] = amount;
+        amounts.put(&[amount]);
         total = total + amount;
     }
     Ok(total)
@@ -167,10 +171,11 @@ pub fn list(side: u32, legs: &[Counts], buffer: &mut [u8]) -> Result<usize, List
     if buffer.len() < ROOM {
         return Err(ListingRefusal::ShortBuffer);
     }
-    let mut amounts = [NOTHING; MOST_LEGS];
+    let mut list = [NOTHING; MOST_LEGS];
+    let mut amounts = Front::new(&mut list);
     let total = measure(side, legs, &mut amounts)?;
     let mut page = Page::new(buffer);
-    put_listing(&mut page, &amounts[0..legs.len()], total);
+    put_listing(&mut page, amounts.written(), total);
     Ok(page.len())
 }
 

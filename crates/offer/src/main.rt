@@ -1,12 +1,9 @@
 // Reads a sheet from standard input, and prints the listing of the cheapest loop through its stops, or why there is none.
 #![tactic(auto)]
 
-use quoting::{PAGE, quote};
+use quoting::{MOST_READ, PAGE, quote};
 use std::io::{Read, Write};
 use std::process::ExitCode;
-
-// One byte more than the longest sheet, so that a longer one shows.
-const MOST_READ: u64 = 4097;
 
 // A refusal goes to standard output as values and to standard error as a sentence, and the program ends with status 1.
 fn main(rt: HostRuntime) -> anyhow::Result<ExitCode> {

@@ -1,9 +1,10 @@
 // A look at a sheet's floor: the jumps from its panel, and the length from there to its first device.
 use crate::refuse;
-use floor::Cell;
+use floor::{Cell, Counts};
 use lengths::{Measured, Refusal};
 use packed::PackedSource;
-use planner::{Entry as Place, Planner, Work};
+use planner::Planner;
+use quoting::lists::{Lists, SIDE, WORDS};
 use rate::Rate;
 use rates::exact::ExactRate;
 use report::planner_fault;
@@ -12,15 +13,6 @@ use source::JumpSource;
 use std::fmt;
 use std::fmt::Display;
 use std::process::ExitCode;
-
-// Rows, and columns, of the floor that a sheet speaks of.
-const SIDE: usize = 16;
-
-// One word for each row, and one for each column.
-const WORDS: usize = 32;
-
-// Eight places for each cell.
-const PLACES: usize = 2048;
 
 // Kept: `quoting` has a like function that passes over refusals, since no cell of a sheet gets one; here one would be printed, so one for both is no plainer.
 fn open_cells<S: JumpSource, R: Rate>(
@@ -33,23 +25,53 @@ fn open_cells<S: JumpSource, R: Rate>(
     Ok(())
 }
 
+// A jump in a heading: its steps, and whether it is live.
+#[derive(Clone, Copy)]
+struct Jump {
+    heading: u8,
+    steps: u16,
+    live: bool,
+}
+
+impl Display for Jump {
+    fn fmt<W: fmt::Write>(&self, f: &mut fmt::Formatter<W>) -> fmt::Result {
+        let Jump {
+            heading,
+            steps,
+            live,
+        } = *self;
+        let word = if live { "live" } else { "dead" };
+        write!(f, "{heading} {steps} {word}")
+    }
+}
+
 fn print_jumps<S: JumpSource>(rt: &HostRuntime, source: &S, cell: Cell) -> anyhow::Result<()> {
     println!(rt; "heading steps jump")?;
     for heading in 0u8..8 {
         let (steps, live) = source.jump(cell, heading);
-        let word = if live { "live" } else { "dead" };
-        println!(rt; "{heading} {steps} {word}")?;
+        let jump = Jump {
+            heading,
+            steps,
+            live,
+        };
+        println!(rt; "{jump}")?;
     }
     Ok(())
 }
 
-fn print_length(rt: &HostRuntime, measured: Measured) -> anyhow::Result<()> {
-    let straight = measured.counts.straight;
-    let diagonal = measured.counts.diagonal;
-    let finished = measured.finished;
-    println!(rt; "straight diagonal finished")?;
-    println!(rt; "{straight} {diagonal} {finished}")?;
-    Ok(())
+// A length's counts, and how many places were finished for it.
+#[derive(Clone, Copy)]
+struct Length(Measured);
+
+impl Display for Length {
+    fn fmt<W: fmt::Write>(&self, f: &mut fmt::Formatter<W>) -> fmt::Result {
+        let Measured { counts, finished } = self.0;
+        let Counts { straight, diagonal } = counts;
+        write!(
+            f,
+            "straight diagonal finished\n{straight} {diagonal} {finished}"
+        )
+    }
 }
 
 fn length_between<S: JumpSource, R: Rate>(
@@ -57,13 +79,8 @@ fn length_between<S: JumpSource, R: Rate>(
     start: Cell,
     target: Cell,
 ) -> Result<Measured, Refusal> {
-    let mut places = [Place::BLANK; PLACES];
-    let mut waiting = [0u32; PLACES];
-    let mut work = Work {
-        entries: &mut places,
-        waiting: &mut waiting,
-    };
-    planner.length(start, target, &mut work)
+    let mut lists = Lists::BLANK;
+    planner.length(start, target, &mut lists.work())
 }
 
 // A planner's refusal in words. There is no loop here, and so no leg to name.
@@ -102,7 +119,7 @@ fn look_ahead<S: JumpSource, R: Rate>(
     };
     match length_between(planner, panel, *device) {
         Ok(measured) => {
-            print_length(rt, measured)?;
+            println!(rt; "{}", Length(measured))?;
             Ok(ExitCode::SUCCESS)
         }
         Err(refusal) => refuse_call(rt, refusal),

@@ -5,14 +5,12 @@ mod look;
 
 use floor::Cell;
 use look::look;
+use quoting::MOST_READ;
 use report::Fault;
 use sheet::{Entry, Mark};
 use std::fmt::Display;
 use std::io::Read;
 use std::process::ExitCode;
-
-// One byte more than the longest sheet, so that a longer one shows.
-const MOST_READ: u64 = 4097;
 
 const UNUSED: Entry = Entry {
     cell: Cell { row: 0, col: 0 },

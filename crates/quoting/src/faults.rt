@@ -1,8 +1,9 @@
 // Why a sheet is not quoted: a line of values, whose text is fixed, and a sentence.
-ghost use Rattle.std.specs.Prelude.{◌≡◌, ◌≤◌, length};
+ghost use Rattle.std.specs.Prelude.{◌≡◌};
 ghost use Rattle.writing.specs.Fronts.{Wrote, Fits, Added};
 ghost use Rattle.quoting.specs.Faults.{fault_of, fault_line, refusal_text};
 
+use crate::quotes::PAGE;
 use lengths::Refusal as CallRefusal;
 use listing::lines::ListingRefusal;
 use planner::LoopRefusal;
@@ -53,8 +54,8 @@ fn put_fault(page: &mut Page, fault: Fault)
 }
 
 // Writes a refusal to the front of a page, and answers how long the text is.
-pub fn put_refusal(bytes: &mut [u8], refusal: Refusal) -> usize
-    requires { 4096 ≤ length bytes.old }
+// Kept: the length is what a quote answers, and its caller would have to make a Page only to ask that of it: no plainer.
+pub fn put_refusal(bytes: &mut [u8; PAGE], refusal: Refusal) -> usize
     ensures { Wrote bytes.old 0 (refusal_text refusal) bytes.new result }
 {
     let mut page = Page::new(bytes);

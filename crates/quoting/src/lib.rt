@@ -2,8 +2,9 @@
 #![tactic(auto)]
 
 mod faults;
+pub mod lists;
 mod loops;
 mod quotes;
 
 pub use faults::Refusal;
-pub use quotes::{Outcome, PAGE, quote};
+pub use quotes::{MOST_READ, Outcome, PAGE, quote};

@@ -8,6 +8,10 @@ use crate::loops::tour;
 use floor::{Cell, Counts};
 use listing::lines::list;
 use sheet::{Entry, Mark};
+use writing::Front;
+
+// One byte more than the longest sheet, so that a longer one shows.
+pub const MOST_READ: u64 = sheet::MAX_BYTES as u64 + 1;
 
 // Room for whatever is printed.
 pub const PAGE: usize = 4096;
@@ -38,11 +42,12 @@ fn list_loop(page: &mut [u8; PAGE], entries: &[Entry]) -> Result<usize, Refusal>
     ensures quoted { OncePrinted (λ after q. QuotedLoop page.old after q entries.now) page.old page.new result }
     ensures fits { IfOk result (λ n. n ≤ 4096) }
 {
-    let mut stops = [NOWHERE; 256];
-    let count = sheet::put_run(entries, &mut stops);
+    let mut cells = [NOWHERE; 256];
+    let mut stops = Front::new(&mut cells);
+    sheet::put_run(&mut stops, entries);
     let mut legs = [Counts::NONE; 64];
-    tour(entries, &stops[0..count], &mut legs).map_err(Refusal::Planner)?;
-    list(SIDE, &legs[0..count], page).map_err(Refusal::Listing)
+    tour(entries, stops.written(), &mut legs).map_err(Refusal::Planner)?;
+    list(SIDE, &legs[0..stops.len()], page).map_err(Refusal::Listing)
 }
 
 // Prints the listing of the loop through the stops of a sheet, or says why there is none.

@@ -2,7 +2,7 @@
 #![tactic(auto)]
 
 ghost use Rattle.std.specs.Prelude.{◌≡◌, ◌+◌, ◌≤◌, ◌++◌, length, take, IfOk, OnOk};
-ghost use Rattle.writing.specs.Fronts.{over as over_front, Fits, Added};
+ghost use Rattle.writing.specs.Fronts.{Fits, Added};
 ghost use Rattle.sheet.specs.Format.{pieces, lines};
 ghost use Rattle.sheet.specs.Meaning.{named, has_panel, admitted, added, read_lines, reading_of, answered, over};
 ghost use Rattle.sheet.specs.Accepted.{Accepted};
@@ -37,7 +37,7 @@ pub struct Entry {
 }
 
 // The longest sheet, and how many cells it can name: 16 rows of 16.
-const MAX_BYTES: usize = 4096;
+pub const MAX_BYTES: usize = 4096;
 
 const MAX_ENTRIES: usize = 256;
 
@@ -148,17 +148,14 @@ fn put_marked(cells: &mut Front<'_, Cell>, entries: &[Entry], mark: Mark)
     }
 }
 
-// Writes the run that the entries ask for to the front of a list that is at least as long: the panel, and then the devices in line order. Answers its length.
-pub fn put_run(entries: &[Entry], cells: &mut [Cell]) -> usize
-    requires { length entries.now ≤ length cells.old }
-    ensures length { result ≡ length (run_of entries.now) }
-    ensures list { cells.new ≡ over_front (run_of entries.now) cells.old }
-    ensures within { result ≤ length entries.now }
+// Writes the run that the entries ask for to a list with room for as many cells as there are entries: the panel, and then the devices in line order.
+pub fn put_run(run: &mut Front<'_, Cell>, entries: &[Entry])
+    requires { run.old.len + length entries.now ≤ length run.old.list.now }
+    ensures cells { Added run.old (run_of entries.now) run.new }
+    ensures within { run.new.len ≤ run.old.len + length entries.now }
 {
-    let mut front = Front::new(cells);
-    put_marked(&mut front, entries, Mark::Panel);
-    put_marked(&mut front, entries, Mark::Device);
-    front.len()
+    put_marked(run, entries, Mark::Panel);
+    put_marked(run, entries, Mark::Device);
 }
 
 // The laws of the format, for whoever reads its definition.

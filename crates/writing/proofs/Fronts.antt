@@ -94,12 +94,31 @@ module _ {X : Type 0} where
   left_as start whole now left other same l = subst (Left start whole now) same l
 
   -- nothing more is written after it
-  added_none : (front : Front X) → Added front [] front
+  pub added_none : (front : Front X) → Added front [] front
   added_none front = record { same = refl; wrote = nothing front.list.now front.len }
 
   -- once nothing is left, the whole is written
   pub written : (start : Front X) (whole : List X) (now : Front X) → Left start whole now [] → Added start whole now
   written start whole now l = l.rest now (added_none now)
+
+  -- one piece and then another are both written
+  pub both_written : (start : Front X) (first : List X) (between : Front X) (second : List X) (after : Front X) → Fits start (first ++ second) → Added start first between → Added between second after → Added start (first ++ second) after
+  both_written start first between second after room a b = (others_left start (first ++ second) start first second between (all_left start (first ++ second) room) a).rest after b
+
+  -- after a piece, what there was room for beside it fits
+  pub fits_next : (start : Front X) (first : List X) (between : Front X) (second : List X) → Fits start (first ++ second) → Added start first between → Fits between second
+  fits_next start first between second room a = (others_left start (first ++ second) start first second between (all_left start (first ++ second) room) a).fits
+
+  -- what was written first is all that is written, and so long
+  pub first_written : (start : Front X) (piece : List X) (after : Front X) → start.len ≡ 0 → Added start piece after → take after.len after.list.now ≡ piece
+  first_written start piece after none a =
+      let wrote = a.wrote in
+      let at = subst (λ (n : ℕ). Wrote start.list.now n piece after.list.now after.len) none wrote in
+      let shown = at_front start.list.now piece after.list.now after.len at in
+      ap (take after.len) shown.0 ∙ take_at piece (drop (length piece) start.list.now) after.len (sym shown.1)
+
+  pub first_length : (start : Front X) (piece : List X) (after : Front X) → start.len ≡ 0 → Added start piece after → after.len ≡ length piece
+  first_length start piece after none a = let on = a.wrote.on in omega arith
 
   -- what was written to a page that was empty stands at the front of the list that was lent to it
   pub all_written : (start : Front X) (piece : List X) (after : Front X) (before list : List X) (n : ℕ) → start.len ≡ 0 → start.list.now ≡ before → Added start piece after → list ≡ after.list.now → n ≡ after.len → Wrote before 0 piece list n

@@ -1,7 +1,7 @@
 // Pieces written one after another to the front of a lent list; here text, to a page of bytes.
 #![tactic(auto)]
 
-ghost use Rattle.std.specs.Prelude.{◌≡◌, ◌≤◌, length, decimal};
+ghost use Rattle.std.specs.Prelude.{◌≡◌, ◌≤◌, length, take, decimal};
 ghost use Rattle.writing.specs.Values.{value, last_values};
 
 // A lent list, and how much of it is written.
@@ -23,17 +23,7 @@ impl<'a, T: Copy> Front<'a, T> {
         ensures list { result.list.now ≡ list.old }
         ensures none { result.len ≡ 0 }
     {
-        Front::at(list, 0)
-    }
-
-    // So much is written already.
-    pub fn at(list: &'a mut [T], len: usize) -> Front<'a, T>
-        requires { len ≤ length list.old }
-        ensures lent { result.list.ghost_name ≡ list.entry.ghost_name }
-        ensures list { result.list.now ≡ list.old }
-        ensures len { result.len ≡ len }
-    {
-        Front { list, len }
+        Front { list, len: 0 }
     }
 
     // How much is written.
@@ -41,6 +31,13 @@ impl<'a, T: Copy> Front<'a, T> {
         ensures { result ≡ self.now.len }
     {
         self.len
+    }
+
+    // What is written.
+    pub fn written(&self) -> &[T]
+        ensures { result.now ≡ take self.now.len self.now.list.now }
+    {
+        &self.list[0..self.len]
     }
 
     // Writes a piece after what is written.

@@ -31,7 +31,6 @@ put_fault-requires c =
     let short = fault_short c.from.result in
     let none = c.new-page.ensures.none in
     let long = ap length c.new-page.ensures.list in
-    let room = c.requires in
     record { room = omega arith }
 
 pub returns : goal.returns

@@ -13,6 +13,7 @@ use Rattle.planner.specs.Loops.{LoopTold}
 use Rattle.planner.specs.Touring.{Toured}
 use Rattle.planner.proofs.Legs.{legs_length}
 use Rattle.writing.specs.Fronts.{over}
+use Rattle.writing.proofs.Fronts.{first_written, first_length}
 use Rattle.listing.specs.declared.lines.ListingRefusal.{ListingRefusal}
 use Rattle.listing.specs.Lines.{listing_refusal, Listed}
 use Rattle.sheet.specs.Run.{run_of}
@@ -57,11 +58,13 @@ returns-clause-quoted c =
     let es = c.args.entries.now in
     let page = c.args.page.now in
     let z = floor_sized es c.requires.accepted in
-    let stops = front (run_of es) _ _ c.put_run-count.result c.put_run-count.ensures.list c.put_run-count.ensures.length in
+    let run = c.put_run.ensures.cells in
+    let stops = c.written.ensures ∙ first_written _ _ _ c.new-stops.ensures.none run in
+    let count = c.len.ensures ∙ first_length _ _ _ c.new-stops.ensures.none run in
     let n = c.in_ok-map_err.field-0 in
     let is = still _ _ _ n c.map_err.ensures.cases c.in_ok-map_err.was in
     let done = answered (floor_of es) z (run_of es) _ stops _ _ _ c.tour.ensures.told n is in
-    let legs = written (floor_of es) z (run_of es) _ stops _ _ _ c.tour.ensures.told n is c.put_run-count.result c.put_run-count.ensures.length in
+    let legs = written (floor_of es) z (run_of es) _ stops _ _ _ c.tour.ensures.told n is c.len.result count in
     let room : length page ≡ 4096 = omega arith in
     let fine = ap (λ (m : ℕ). listing_refusal 1000 c.tour.ensures.told.measured m) room ∙ never_refused (floor_of es) z (run_of es) _ n done in
     let text = printed _ page _ _ fine (subst (λ (ns : List Counts). Listed 1000 ns page c.list.new.buffer c.list.result) legs c.list.ensures) in
