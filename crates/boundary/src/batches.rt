@@ -7,7 +7,9 @@ ghost use Rattle.boundary.specs.Numbers.{action_in};
 ghost use Rattle.boundary.specs.Batches.{after_by, RightBy, AllRight};
 
 use crate::numbers::{Action, Query, Reply};
-use planner::{Entry, Planner, Work};
+use lengths::Room;
+use lists::Lists;
+use planner::{Planner, Work};
 use rate::Rate;
 use source::JumpSource;
 use std::alloc::{AllocError, Global};
@@ -41,6 +43,8 @@ fn reply_all<S: JumpSource, R: Rate>(
     ensures right { AllRight (R.Rate.order planner.old.rate) (length work.old.entries.now) (length work.old.waiting.now) (S.JumpSource.meaning planner.old.source) queries.now replies.new }
     ensures rest { drop (length queries.now) replies.new ≡ drop (length queries.now) replies.old }
 {
+    // Kept: over both lists at once, as `queries.iter().zip(replies.iter_mut())`, it is not proved: the loop's record has no name for the replies, and of
+    // what they hold after the loop nothing is given to `right` and `rest`.
     for (i, query) in queries.iter().enumerate() {
         replies[i] = reply_to(planner, *query, work);
     }
@@ -60,13 +64,12 @@ pub fn run<S: JumpSource, R: Rate>(
     ensures same { OnErr result (replies.new ≡ replies.old) }
 {
     let places = 8 * source.size().cells();
-    let mut entries = vec![in heap; Entry::BLANK; places]?;
-    let mut waiting = vec![in heap; 0u32; places]?;
-    let mut planner = Planner::new(&mut *source, rate);
-    let mut work = Work {
-        entries: entries.as_mut_slice(),
-        waiting: waiting.as_mut_slice(),
+    let room = Room {
+        entries: places,
+        waiting: places,
     };
-    reply_all(&mut planner, queries, replies, &mut work);
+    let mut lists = Lists::new(heap, room)?;
+    let mut planner = Planner::new(&mut *source, rate);
+    reply_all(&mut planner, queries, replies, &mut lists.work());
     Ok(())
 }

@@ -7,9 +7,10 @@ use crate::steps::both;
 use crate::tally::Tally;
 use crate::words::Task;
 use floor::{Cell, Counts};
-use lengths::{Drawn, Refusal};
+use lengths::{Drawn, Refusal, Room};
 use listing::millimetres::millimetres;
-use planner::{Entry, Planner, Work};
+use lists::Lists;
+use planner::Planner;
 use rate::Rate;
 use source::{JumpSource, labels};
 use std::alloc::{AllocError, Global};
@@ -25,66 +26,36 @@ const NO_COUNTS: Counts = Counts {
 // Sides of cells for which lengths are told in millimetres.
 const SIDES: [u32; 3] = [1, 1_000, 1_999];
 
-// How long the lists are that a planner is lent.
-#[derive(Clone, Copy)]
-pub struct Room {
-    pub entries: usize,
-    pub waiting: usize,
-    pub corners: usize,
-    pub legs: usize,
-}
-
-// The work lists that a planner is lent.
-#[derive(Drop)]
-pub struct Desk {
-    entries: Vec<Entry>,
-    waiting: Vec<u32>,
-}
-
-impl Desk {
-    pub fn lend(&mut self) -> Work<'_> {
-        Work {
-            entries: self.entries.as_mut_slice(),
-            waiting: self.waiting.as_mut_slice(),
-        }
-    }
-}
-
 // All lists that a planner is lent.
 #[derive(Drop)]
-pub struct Lists {
-    pub desk: Desk,
+pub struct Desk {
+    pub lists: Lists,
     pub corners: Vec<Cell>,
     pub legs: Vec<Counts>,
 }
 
-impl Lists {
-    pub fn new(heap: Global, room: Room) -> Result<Lists, AllocError> {
-        Ok(Lists {
-            desk: Desk {
-                entries: vec![in heap; Entry::BLANK; room.entries]?,
-                waiting: vec![in heap; 0u32; room.waiting]?,
-            },
-            corners: vec![in heap; NO_CELL; room.corners]?,
-            legs: vec![in heap; NO_COUNTS; room.legs]?,
+impl Desk {
+    pub fn new(heap: Global, room: Room, corners: usize, legs: usize) -> Result<Desk, AllocError> {
+        Ok(Desk {
+            lists: Lists::new(heap, room)?,
+            corners: vec![in heap; NO_CELL; corners]?,
+            legs: vec![in heap; NO_COUNTS; legs]?,
         })
     }
 
-    // Just as long as they have to be.
-    fn full(heap: Global, cells: usize) -> Result<Lists, AllocError> {
+    // With lists just as long as they have to be.
+    fn full(heap: Global, cells: usize) -> Result<Desk, AllocError> {
         let places = cells.saturating_mul(8);
         let room = Room {
             entries: places,
             waiting: places,
-            corners: cells,
-            legs: 64,
         };
-        Lists::new(heap, room)
+        Desk::new(heap, room, cells, 64)
     }
 
     fn finished(&self) -> usize {
-        self.desk
-            .entries
+        self.lists
+            .entries()
             .iter()
             .filter(|entry| entry.is_finished())
             .count()
@@ -119,7 +90,8 @@ fn put_marks<S: JumpSource, R: Rate>(
 }
 
 // A label holds the steps; one of a dead jump has 32,768 added.
-// Kept: a jump is a pair of steps and a live flag, the form in which every source answers it.
+// Kept: a jump is a pair of steps and a live flag, the form in which every source answers it; and the label is worked out here, beside the
+// sources' own, since what checks their answers shares no formula with them.
 fn label_of(jump: (u16, bool)) -> u16 {
     if jump.1 {
         jump.0
@@ -168,14 +140,14 @@ fn put_length<S: JumpSource, R: Rate>(
     planner: &Planner<S, R>,
     ask: &Ask,
     price: Price,
-    lists: &mut Lists,
+    desk: &mut Desk,
     tally: &mut Tally,
 ) {
-    let answer = planner.length(ask.start, ask.target, &mut lists.desk.lend());
+    let answer = planner.length(ask.start, ask.target, &mut desk.lists.work());
     match answer {
         Ok(measured) => {
             tally.lengths.note(costs(ask.reply, price, measured.counts));
-            tally.finished.note(lists.finished() == measured.finished);
+            tally.finished.note(desk.finished() == measured.finished);
             put_counts(measured.counts, tally);
         }
         Err(refusal) => tally.lengths.note(refuses(ask.reply, refusal.number())),
@@ -202,16 +174,16 @@ fn put_route<S: JumpSource, R: Rate>(
     grid: &Grid,
     ask: &Ask,
     price: Price,
-    lists: &mut Lists,
+    desk: &mut Desk,
 ) -> bool {
-    lists.corners.as_mut_slice().fill(NO_CELL);
+    desk.corners.as_mut_slice().fill(NO_CELL);
     let answer = planner.route(
         ask.start,
         ask.target,
-        &mut lists.desk.lend(),
-        lists.corners.as_mut_slice(),
+        &mut desk.lists.work(),
+        desk.corners.as_mut_slice(),
     );
-    let corners = lists.corners.as_slice();
+    let corners = desk.corners.as_slice();
     match answer {
         Ok(drawn) => {
             costs(ask.reply, price, drawn.measured.counts) && drawn_well(grid, ask, drawn, corners)
@@ -247,16 +219,16 @@ fn summed(price: Price, legs: &[Ask], written: &[Counts], measured: usize) -> Op
 fn put_loop<S: JumpSource, R: Rate>(
     planner: &Planner<S, R>,
     paper: &Paper,
-    lists: &mut Lists,
+    desk: &mut Desk,
 ) -> bool {
-    lists.legs.as_mut_slice().fill(NO_COUNTS);
+    desk.legs.as_mut_slice().fill(NO_COUNTS);
     let answer = planner.tour(
         paper.stations.as_slice(),
-        &mut lists.desk.lend(),
-        lists.legs.as_mut_slice(),
+        &mut desk.lists.work(),
+        desk.legs.as_mut_slice(),
     );
     let legs = paper.legs.as_slice();
-    let written = lists.legs.as_slice();
+    let written = desk.legs.as_slice();
     match answer {
         Ok(total) => {
             first_refused(legs).is_none()
@@ -274,15 +246,15 @@ fn put_paper<S: JumpSource, R: Rate>(
     planner: &Planner<S, R>,
     grid: &Grid,
     paper: &Paper,
-    lists: &mut Lists,
+    desk: &mut Desk,
     tally: &mut Tally,
 ) {
     for ask in paper.asks.iter() {
-        put_length(planner, ask, paper.price, lists, tally);
-        let agrees = put_route(planner, grid, ask, paper.price, lists);
+        put_length(planner, ask, paper.price, desk, tally);
+        let agrees = put_route(planner, grid, ask, paper.price, desk);
         tally.routes.note(agrees);
     }
-    let agrees = put_loop(planner, paper, lists);
+    let agrees = put_loop(planner, paper, desk);
     tally.loops.note(agrees);
 }
 
@@ -305,13 +277,13 @@ impl<R: Priced> Task for Asking<'_, R> {
         } = self;
         let mut planner = Planner::new(source, rate);
         for moment in moments {
-            let mut lists = Lists::full(heap, moment.grid.size.cells())?;
+            let mut desk = Desk::full(heap, moment.grid.size.cells())?;
             put_marks(&mut planner, moment.marks.as_slice(), tally);
             for view in moment.views.iter() {
                 put_view(&planner.source, view, tally);
             }
             let paper = moment.paper(R::PRICE);
-            put_paper(&planner, &moment.grid, paper, &mut lists, tally);
+            put_paper(&planner, &moment.grid, paper, &mut desk, tally);
         }
         Ok(())
     }

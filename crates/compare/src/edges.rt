@@ -1,9 +1,9 @@
 // Each refusal at its edge: what just passes, and what is refused by which number.
-use crate::asking::{Lists, Room};
+use crate::asking::Desk;
 use crate::tally::Line;
 use crate::words::Task;
 use floor::{Cell, Counts};
-use lengths::Refusal;
+use lengths::{Refusal, Room};
 use listing::millimetres::{Refusal as FigureRefusal, millimetres};
 use planner::Planner;
 use rate::Rate;
@@ -106,11 +106,9 @@ fn across<S: JumpSource, R: Rate>(
     let room = Room {
         entries: 72,
         waiting: 72,
-        corners: 9,
-        legs: 0,
     };
-    let mut lists = Lists::new(heap, room)?;
-    let answer = planner.length(FIRST, LAST, &mut lists.desk.lend());
+    let mut desk = Desk::new(heap, room, 9, 0)?;
+    let answer = planner.length(FIRST, LAST, &mut desk.lists.work());
     Ok(answer.ok().map(|measured| measured.counts))
 }
 
@@ -121,19 +119,14 @@ fn put_case<S: JumpSource, R: Rate>(
     line: &mut Line,
 ) -> Result<(), AllocError> {
     let Case(start, target, entries, waiting, corners, by_length, by_route) = case;
-    let room = Room {
-        entries,
-        waiting,
-        corners,
-        legs: 0,
-    };
-    let mut lists = Lists::new(heap, room)?;
-    let length = planner.length(start, target, &mut lists.desk.lend());
+    let room = Room { entries, waiting };
+    let mut desk = Desk::new(heap, room, corners, 0)?;
+    let length = planner.length(start, target, &mut desk.lists.work());
     let route = planner.route(
         start,
         target,
-        &mut lists.desk.lend(),
-        lists.corners.as_mut_slice(),
+        &mut desk.lists.work(),
+        desk.corners.as_mut_slice(),
     );
     line.note(length.err().map(Refusal::number) == by_length);
     line.note(route.err().map(Refusal::number) == by_route);
@@ -151,11 +144,9 @@ fn put_round<S: JumpSource, R: Rate>(
     let room = Room {
         entries,
         waiting: 72,
-        corners: 0,
-        legs,
     };
-    let mut lists = Lists::new(heap, room)?;
-    let answer = planner.tour(cells, &mut lists.desk.lend(), lists.legs.as_mut_slice());
+    let mut desk = Desk::new(heap, room, 0, legs)?;
+    let answer = planner.tour(cells, &mut desk.lists.work(), desk.legs.as_mut_slice());
     Ok(
         answer
             .err()

@@ -1,6 +1,7 @@
 // A floor's size, and the cells that it has.
 use floor::Cell;
 
+// Kept: beside the sources' own size, since what checks the planner's answers shares no formula with it.
 #[derive(Clone, Copy)]
 pub struct Extent {
     pub rows: usize,

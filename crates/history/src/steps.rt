@@ -1,5 +1,5 @@
 // One call at a time: the public step of which every run is made.
-ghost use Rattle.std.specs.Prelude.{◌≡◌, ℕ, ◌+◌, ◌-◌, length, IfOk, vec_len};
+ghost use Rattle.std.specs.Prelude.{◌≡◌, ℕ, ◌+◌, ◌-◌, IfOk};
 ghost use Rattle.floor.specs.Plans.{legal};
 ghost use Rattle.lengths.specs.Answers.{costs, drawn_costs, corner_count, LengthTold, RouteTold};
 ghost use Rattle.planner.specs.Loops.{LoopTold};
@@ -9,40 +9,11 @@ ghost use Rattle.history.specs.Records.{asked, told, measured_legs};
 use crate::calls::{Answer, Call};
 use floor::{Cell, Counts};
 use lengths::{Drawn, Measured, Refusal, Room};
-use planner::{Entry, LoopRefusal, Planner, Work};
+use lists::Lists;
+use planner::{LoopRefusal, Planner};
 use rate::Rate;
 use source::JumpSource;
 use std::alloc::{AllocError, Global};
-
-// The two work lists of a call.
-#[derive(Drop)]
-struct Lists {
-    entries: Vec<Entry>,
-    waiting: Vec<u32>,
-}
-
-impl Lists {
-    // Lists of these lengths.
-    fn new(heap: Global, room: Room) -> Result<Lists, AllocError>
-        ensures { IfOk result (λ lists. (vec_len lists.entries ≡ room.entries) × (vec_len lists.waiting ≡ room.waiting)) }
-    {
-        Ok(Lists {
-            entries: vec![in heap; Entry::BLANK; room.entries]?,
-            waiting: vec![in heap; 0u32; room.waiting]?,
-        })
-    }
-
-    // The lists, lent for a call.
-    fn work(&mut self) -> Work<'_>
-        ensures entries { length result.entries.now ≡ vec_len self.old.entries }
-        ensures waiting { length result.waiting.now ≡ vec_len self.old.waiting }
-    {
-        Work {
-            entries: self.entries.as_mut_slice(),
-            waiting: self.waiting.as_mut_slice(),
-        }
-    }
-}
 
 // A length, with work lists of these lengths.
 fn measured<S: JumpSource, R: Rate>(

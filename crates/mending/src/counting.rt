@@ -12,9 +12,12 @@ const LABELS: usize = 131072;
 
 const DEAD: u16 = 32768;
 
-const STRAIGHT: [Heading; 4] = [Heading::North, Heading::East, Heading::South, Heading::West];
-
-const DIAGONAL: [Heading; 4] = [
+// Straight ones first, since diagonal labels look at straight ones.
+const HEADINGS: [Heading; 8] = [
+    Heading::North,
+    Heading::East,
+    Heading::South,
+    Heading::West,
     Heading::NorthEast,
     Heading::SouthEast,
     Heading::SouthWest,
@@ -138,16 +141,9 @@ impl Twin {
         }
     }
 
-    // Puts labels right along a line, backwards, until one is right already. Where one comes to life or dies, more is to do.
-    fn walk<F: FnMut(&mut Twin, Cell)>(
-        &mut self,
-        floor: &TableSource<'_>,
-        from: Option<Cell>,
-        towards: Heading,
-        mut at_life: F,
-    )
-        requires { F.IsAlwaysCallable at_life }
-    {
+    // Puts labels right along a line, backwards, until one is right already. Where a straight one comes to life or dies, the two diagonal
+    // headings that look at it are followed back at once, in the same way.
+    fn mend_from(&mut self, floor: &TableSource<'_>, from: Option<Cell>, towards: Heading) {
         let mut at = from;
         // Kept: so many steps at most, in place of a measure of what is left to walk, which would be no plainer.
         for _ in 0..SIDE {
@@ -157,49 +153,49 @@ impl Twin {
             match self.put_right(floor, cell, towards) {
                 Change::Same => return,
                 Change::Steps => {}
-                Change::Life => at_life(&mut *self, cell),
+                Change::Life => {
+                    if !towards.is_diagonal() {
+                        let left = towards.turn(Side::Left);
+                        let right = towards.turn(Side::Right);
+                        self.mend_from(floor, cell.stepped(left.opposite()), left);
+                        self.mend_from(floor, cell.stepped(right.opposite()), right);
+                    }
+                }
             }
             at = cell.stepped(towards.opposite());
         }
     }
 
-    fn walk_diagonal(&mut self, floor: &TableSource<'_>, from: Option<Cell>, towards: Heading) {
-        self.walk(floor, from, towards, |_, _| {});
+    // The same from the cells next to `cell` on some sides.
+    fn mend_around(
+        &mut self,
+        floor: &TableSource<'_>,
+        cell: Cell,
+        sides: &[Heading],
+        towards: Heading,
+    ) {
+        for side in sides {
+            self.mend_from(floor, cell.stepped(*side), towards);
+        }
     }
 
-    // A straight jump's life decides where the diagonal ones beside it end.
-    fn walk_straight(&mut self, floor: &TableSource<'_>, from: Option<Cell>, towards: Heading) {
-        self.walk(floor, from, towards, |twin, cell| {
-            for side in [Side::Left, Side::Right] {
-                let beside = towards.turn(side);
-                twin.walk_diagonal(floor, cell.stepped(beside.opposite()), beside);
-            }
-        });
+    // Mends the labels of one heading.
+    fn mend_heading(&mut self, floor: &TableSource<'_>, cell: Cell, towards: Heading) {
+        let back = towards.opposite();
+        let left = back.turn(Side::Left);
+        let right = back.turn(Side::Right);
+        self.mend_from(floor, Some(cell), towards);
+        self.mend_around(floor, cell, &[back, left, right], towards);
+        if !towards.is_diagonal() {
+            let further = [left.turn(Side::Left), right.turn(Side::Right)];
+            self.mend_around(floor, cell, &further, towards);
+        }
     }
 
     // Mends the copy after a mark of the floor at `cell`, in the order in which the table does.
     pub fn mend(&mut self, floor: &TableSource<'_>, cell: Cell) {
-        for towards in STRAIGHT {
-            let back = towards.opposite();
-            let left = back.turn(Side::Left);
-            let right = back.turn(Side::Right);
-            self.walk_straight(floor, Some(cell), towards);
-            for beside in [
-                back,
-                left,
-                right,
-                left.turn(Side::Left),
-                right.turn(Side::Right),
-            ] {
-                self.walk_straight(floor, cell.stepped(beside), towards);
-            }
-        }
-        for towards in DIAGONAL {
-            let back = towards.opposite();
-            self.walk_diagonal(floor, Some(cell), towards);
-            for beside in [back, back.turn(Side::Left), back.turn(Side::Right)] {
-                self.walk_diagonal(floor, cell.stepped(beside), towards);
-            }
+        for towards in HEADINGS {
+            self.mend_heading(floor, cell, towards);
         }
     }
 }

@@ -1,0 +1,50 @@
+// The work lists that a planner is lent, owned: for callers that have memory of their own. The planner and what lies under it allocate nothing.
+#![tactic(auto)]
+
+ghost use Rattle.std.specs.Prelude.{◌≡◌, length, IfOk, vec_items};
+ghost use Rattle.lists.specs.Lengths.{room_of};
+
+use lengths::Room;
+use search::Work;
+use search::entry::Entry;
+use std::alloc::{AllocError, Global};
+
+#[cfg(test)]
+mod tests;
+
+// The entries of places, and those places that wait.
+#[derive(Drop)]
+pub struct Lists {
+    entries: Vec<Entry>,
+    waiting: Vec<u32>,
+}
+
+impl Lists {
+    // Lists of these lengths, if there is memory for them.
+    pub fn new(heap: Global, room: Room) -> Result<Lists, AllocError>
+        ensures { IfOk result (λ lists. room_of lists ≡ room) }
+    {
+        Ok(Lists {
+            entries: vec![in heap; Entry::BLANK; room.entries]?,
+            waiting: vec![in heap; 0u32; room.waiting]?,
+        })
+    }
+
+    // The lists, lent for a call.
+    pub fn work(&mut self) -> Work<'_>
+        ensures entries { length result.entries.now ≡ (room_of self.old).entries }
+        ensures waiting { length result.waiting.now ≡ (room_of self.old).waiting }
+    {
+        Work {
+            entries: self.entries.as_mut_slice(),
+            waiting: self.waiting.as_mut_slice(),
+        }
+    }
+
+    // What the entries hold of the last search.
+    pub fn entries(&self) -> &[Entry]
+        ensures { result.now ≡ vec_items self.now.entries }
+    {
+        self.entries.as_slice()
+    }
+}
