@@ -13,6 +13,7 @@ pub const WORDS: usize = 32;
 const PLACES: usize = 2048;
 
 // Lists with room for every place of the floor.
+// Kept: beside the crate `lists`, whose lists are made on the heap. A quote allocates nothing, a rule of the project, and its floor has one size.
 #[derive(Drop)]
 pub struct Lists {
     entries: [Entry; PLACES],
