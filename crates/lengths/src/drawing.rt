@@ -16,7 +16,7 @@ use crate::answers::{Drawn, Measured, Refusal};
 use crate::asking::{Room, check_route, places};
 use crate::measuring::{reach, stay};
 use floor::Cell;
-use places::{Place, heading_of};
+use places::{cell_of, heading_of};
 use rate::Rate;
 use search::Work;
 use search::graph::Position;
@@ -47,13 +47,13 @@ fn write_corners<S: JumpSource>(
     let cols = source.size().cols;
     let all = &*work.entries;
     let entries = &all[..places(source)];
-    corners[0] = Place::numbered(place, cols).cell;
+    corners[0] = cell_of(place, cols);
     let mut count = 1;
     let mut at = place;
     let mut from = entries[place as usize].reached().from;
     while let Position::Place(back) = from {
         if turns(back, at) {
-            corners[count] = Place::numbered(back, cols).cell;
+            corners[count] = cell_of(back, cols);
             count += 1;
         }
         at = back;

@@ -9,7 +9,7 @@ ghost use Rattle.lengths.specs.Questions.{places as places_of};
 
 use crate::asking::places;
 use floor::{Cell, Heading};
-use places::Place;
+use places::{Place, cell_of, heading_of};
 use pruning::{goings_from_place, successor};
 use search::graph::{Edge, Graph, Position};
 use source::JumpSource;
@@ -21,37 +21,39 @@ pub struct Leaps<'a, S> {
     pub target: Cell,
 }
 
-impl<'a, S: JumpSource> Leaps<'a, S> {
-    // The edge of the leap from a cell in a heading, if there is one.
-    fn from_cell(&self, cell: Cell, heading: Heading) -> Option<Edge>
-        ensures { result ≡ option_map (leap (S.JumpSource.meaning self.now.source.now).cols (point cell) heading) (next_of (S.JumpSource.meaning self.now.source.now) (point self.now.target) (point cell) heading) }
-    {
-        let leap = successor(self.source, cell, heading, self.target)?;
-        let place = Place {
-            cell: leap.cell,
-            heading,
-        };
-        Some(Edge {
-            to: place.number(self.source.size().cols),
-            counts: leap.counts,
-        })
-    }
+// The edge of the leap from a cell in a heading towards a target, if there is one.
+// Kept: no method of `Leaps`, which it would keep in memory: searches on bytes and on words take 0.2 % more instructions so.
+fn leap_from<S: JumpSource>(source: &S, cell: Cell, heading: Heading, target: Cell) -> Option<Edge>
+    ensures { result ≡ option_map (leap (S.JumpSource.meaning source.now).cols (point cell) heading) (next_of (S.JumpSource.meaning source.now) (point target) (point cell) heading) }
+{
+    let leap = successor(source, cell, heading, target)?;
+    let place = Place {
+        cell: leap.cell,
+        heading,
+    };
+    Some(Edge {
+        to: place.number(source.size().cols),
+        counts: leap.counts,
+    })
+}
 
+impl<'a, S: JumpSource> Leaps<'a, S> {
     // Whether a place goes on in a heading.
-    fn goes_on(&self, place: Place, heading: Heading) -> bool
-        ensures { result ≡ goes_on (S.JumpSource.meaning self.now.source.now) (place_at (point place.cell) place.heading) heading }
+    fn goes_on(&self, cell: Cell, arrival: Heading, heading: Heading) -> bool
+        ensures { result ≡ goes_on (S.JumpSource.meaning self.now.source.now) (place_at (point cell) arrival) heading }
     {
-        goings_from_place(self.source, place.cell, place.heading)[usize::from(heading)]
+        goings_from_place(self.source, cell, arrival)[usize::from(heading)]
     }
 
     // The edge of the leap from a place in a heading, if it goes on so.
+    // Kept: cell and heading apart, not as a Place: so rows and columns are known to be small, and searches on words take 0.2 % fewer instructions.
     fn from_place(&self, number: u32, heading: Heading) -> Option<Edge>
         requires { 0 < (S.JumpSource.meaning self.now.source.now).cols }
         ensures { result ≡ leap_in (S.JumpSource.meaning self.now.source.now) self.now.start self.now.target (Position.Place number) heading }
     {
-        let place = Place::numbered(number, self.source.size().cols);
-        if self.goes_on(place, heading) {
-            self.from_cell(place.cell, heading)
+        let cell = cell_of(number, self.source.size().cols);
+        if self.goes_on(cell, heading_of(number), heading) {
+            leap_from(self.source, cell, heading, self.target)
         } else {
             None
         }
@@ -74,13 +76,12 @@ impl<'a, S: JumpSource> Graph for Leaps<'a, S> {
     fn edge(&self, from: Position, turn: u8) -> Option<Edge> {
         let heading = Heading::try_from(turn).ok()?;
         match from {
-            Position::Start => self.from_cell(self.start, heading),
+            Position::Start => leap_from(self.source, self.start, heading, self.target),
             Position::Place(number) => self.from_place(number, heading),
         }
     }
 
     fn is_goal(&self, place: u32) -> bool {
-        self.start != self.target
-            && Place::numbered(place, self.source.size().cols).cell == self.target
+        self.start != self.target && cell_of(place, self.source.size().cols) == self.target
     }
 }

@@ -29,15 +29,22 @@ impl Place {
         ensures cell { result.cell ≡ cell_of cols number }
         ensures heading { result.heading ≡ heading_of number }
     {
-        let index = number as usize / 8;
-        let cell = Cell {
-            row: index / cols,
-            col: index % cols,
-        };
         Place {
-            cell,
+            cell: cell_of(number, cols),
             heading: heading_of(number),
         }
+    }
+}
+
+// The cell of the place of a number, on a plan of so many columns.
+pub fn cell_of(number: u32, cols: usize) -> Cell
+    requires { 0 < cols }
+    ensures { result ≡ cell_of cols number }
+{
+    let index = number as usize / 8;
+    Cell {
+        row: index / cols,
+        col: index % cols,
     }
 }
 

@@ -79,6 +79,7 @@ impl<'a, R: Rate> Order<u32> for ByCost<'a, R> {
 
 // The entries of all places, and those places that wait.
 // Kept: the queue is no invariant of the type; it is wrong between the write of an entry and the move in the heap that follows.
+// Kept: with the waiting list itself in place of a borrow, what the entries are when this struct is let go is not proved; it is no faster.
 // Kept: the order is made anew at each move in the heap: within this struct it would hold the entries, and what they are when both are let go is not proved.
 #[derive(Drop)]
 pub(crate) struct Frontier<'a, 'b, R> {
@@ -125,6 +126,7 @@ impl<'a, 'b, R: Rate> Frontier<'a, 'b, R> {
     }
 
     // Finishes the first of the places that wait, if any does.
+    #[inline(always)]
     pub(crate) fn finish_first(&mut self) -> Option<u32>
         requires queued { Queued R.Rate.order self.old }
         ensures first { MatchOption result ((k : ℕ) → is_waiting (marks self.old.entries.now k) ≡ false) (λ place. First (R.Rate.order self.old.rate.now) (length self.old.entries.now) (marks self.old.entries.now) place) }
@@ -184,7 +186,8 @@ impl<'a, 'b, R: Rate> Frontier<'a, 'b, R> {
         }
     }
 
-    // Follows the edges of all eight turns.
+    // Follows the edges of all eight turns. As a call of its own, for each place finished, searches on a table take 6 % more instructions.
+    #[inline(always)]
     pub(crate) fn follow_all<G: Graph>(&mut self, graph: &G, from: Position, base: Reached)
         requires sized { length self.old.entries.now ≡ G.Graph.size graph.now }
         requires standing { Standing R.Rate.order (G.Graph.out graph.now) self.old from base 0 }

@@ -67,8 +67,8 @@ loop-from-init g c =
     let es = take c.places.result c.args.work.now.entries.now in
     let cols = c.size-cols.result.cols in (
       ap (λ (x : Reached). x.from) c.reached-from.ensures,
-      λ cs t. set_out cols c.args.start (marks es) cs (cell_of cols c.args.place) (set c.args.corners.now 0 c.numbered.result.cell) c.args.place
-          (take_more_set c.args.corners.now 0 c.numbered.result.cell (let l = c.requires.way.2 in omega arith) ∙ ap (λ z. z ∷ []) c.numbered.ensures.cell) t,
+      λ cs t. set_out cols c.args.start (marks es) cs (cell_of cols c.args.place) (set c.args.corners.now 0 c.cell_of.result) c.args.place
+          (take_more_set c.args.corners.now 0 c.cell_of.result (let l = c.requires.way.2 in omega arith) ∙ ap (λ z. z ∷ []) c.cell_of.ensures) t,
     )
 
 pub bounds-entries-back : goal.bounds-entries-back
@@ -82,7 +82,7 @@ bounds-entries-back g c =
     let n = c.loop-from.count in
     let xs = c.loop-from.corners in
     let last = cell_of cols c.args.place in
-    let old = set c.args.corners.now 0 c.numbered.result.cell in
+    let old = set c.args.corners.now 0 c.cell_of.result in
     (before cols s es falls p.0 last at c.in-Place.back n old xs (c.loop-from.invariant.1 p.0 p.1) (sym c.loop-from.invariant.0 ∙ c.in-Place.is)).within
 
 pub bounds-corners-count : goal.bounds-corners-count
@@ -96,7 +96,7 @@ bounds-corners-count g c =
     let n = c.loop-from.count in
     let xs = c.loop-from.corners in
     let last = cell_of cols c.args.place in
-    let old = set c.args.corners.now 0 c.numbered.result.cell in
+    let old = set c.args.corners.now 0 c.cell_of.result in
     room cols s (marks es) p.0 last old at n xs (simp length-set p.2) (c.loop-from.invariant.1 p.0 p.1)
 
 pub loop-from-smaller : goal.loop-from-smaller
@@ -110,7 +110,7 @@ loop-from-smaller g c =
     let n = c.loop-from.count in
     let xs = c.loop-from.corners in
     let last = cell_of cols c.args.place in
-    let old = set c.args.corners.now 0 c.numbered.result.cell in
+    let old = set c.args.corners.now 0 c.cell_of.result in
     (before cols s es falls p.0 last at c.in-Place.back n old xs (c.loop-from.invariant.1 p.0 p.1) (sym c.loop-from.invariant.0 ∙ c.in-Place.is)).less
 
 pub loop-from-preserved : goal.loop-from-preserved
@@ -124,7 +124,7 @@ loop-from-preserved g c =
     let n = c.loop-from.count in
     let xs = c.loop-from.corners in
     let last = cell_of cols c.args.place in
-    let old = set c.args.corners.now 0 c.numbered.result.cell in
+    let old = set c.args.corners.now 0 c.cell_of.result in
     let k = c.in-Place.back in (
       ap (λ (x : Reached). x.from) c.reached-from-in-Place.ensures,
       λ cs t.
@@ -134,8 +134,8 @@ loop-from-preserved g c =
             | then-turns v ↦
                 let l : n < length xs = room cols s (marks es) p.0 last old at n xs (simp length-set p.2) (c.loop-from.invariant.1 p.0 p.1) in
                 subst (λ (z : List Cell). Writing cols s (marks es) cs last k c.if-turns.count old z) (sym v.corners-is)
-                (subst (λ (m : ℕ). Writing cols s (marks es) cs last k m old (set xs n v.numbered-then-turns.result.cell)) (sym v.count-is)
-                (subst (λ (x : Cell). Writing cols s (marks es) cs last k (n + 1) old (set xs n x)) (sym v.numbered-then-turns.ensures.cell)
+                (subst (λ (m : ℕ). Writing cols s (marks es) cs last k m old (set xs n v.cell_of-then-turns.result)) (sym v.count-is)
+                (subst (λ (x : Cell). Writing cols s (marks es) cs last k (n + 1) old (set xs n x)) (sym v.cell_of-then-turns.ensures)
                 (bends_at cols s (marks es) cs last old at k n xs l w b.cells b.trail b.bent (not-true (same (heading_of k) (heading_of at)) (sym v.if-turns.ensures)))))
             | else-turns v ↦
                 subst (λ (z : List Cell). Writing cols s (marks es) cs last k c.if-turns.count old z) (sym v.corners-is)
@@ -155,7 +155,7 @@ bounds-corners-count-2 g c =
     let n = c.loop-from.count in
     let xs = c.loop-from.corners in
     let last = cell_of cols c.args.place in
-    let old = set c.args.corners.now 0 c.numbered.result.cell in
+    let old = set c.args.corners.now 0 c.cell_of.result in
     room cols s (marks es) p.0 last old at n xs (simp length-set p.2) (c.loop-from.invariant.1 p.0 p.1)
 
 pub slice_bounds-reverse-end : goal.slice_bounds-reverse-end
@@ -169,7 +169,7 @@ slice_bounds-reverse-end g c =
     let n = c.loop-from.count in
     let xs = c.loop-from.corners in
     let last = cell_of cols c.args.place in
-    let old = set c.args.corners.now 0 c.numbered.result.cell in
+    let old = set c.args.corners.now 0 c.cell_of.result in
     let l = room cols s (marks es) p.0 last old at n xs (simp length-set p.2) (c.loop-from.invariant.1 p.0 p.1) in
     simp length-set (omega arith)
 
@@ -184,7 +184,7 @@ slice_bounds-reverse-end-2 g c =
     let n = c.loop-from.count in
     let xs = c.loop-from.corners in
     let last = cell_of cols c.args.place in
-    let old = set c.args.corners.now 0 c.numbered.result.cell in
+    let old = set c.args.corners.now 0 c.cell_of.result in
     let l = room cols s (marks es) p.0 last old at n xs (simp length-set p.2) (c.loop-from.invariant.1 p.0 p.1) in
     sym (length-take-le (n + 1) (set xs n s) (simp length-set (omega arith)))
 
@@ -199,7 +199,7 @@ returns g c cs t =
     let n = c.loop-from.count in
     let xs = c.loop-from.corners in
     let last = cell_of cols c.args.place in
-    let old = set c.args.corners.now 0 c.numbered.result.cell in
+    let old = set c.args.corners.now 0 c.cell_of.result in
     let l : n < length xs = room cols s (marks es) p.0 last old at n xs (simp length-set p.2) (c.loop-from.invariant.1 p.0 p.1) in
     let w : Writing cols s (marks es) cs last at n old xs = c.loop-from.invariant.1 cs (by_code q s c.args.work.now.entries.now cols c.places.result c.size-cols.ensures.1 c.places.ensures t) in
     let r = trail_done w.trail in
@@ -208,5 +208,5 @@ returns g c cs t =
     let h = turned_round cols s (marks es) cs last old at n xs l w (back_home r.0 w.trail r.1 f) in (
       h.0,
       ap (λ z. z ++ drop (n + 1) (set xs n s)) c.reverse.ensures.after ∙ h.1 ∙
-          (λ i. (cs ++ cell_of (c.size-cols.ensures.1 i) c.args.place ∷ []) ++ drop-set-lt (n + 1) c.args.corners.now 0 c.numbered.result.cell (omega arith) i),
+          (λ i. (cs ++ cell_of (c.size-cols.ensures.1 i) c.args.place ∷ []) ++ drop-set-lt (n + 1) c.args.corners.now 0 c.cell_of.result (omega arith) i),
     )
