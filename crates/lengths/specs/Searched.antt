@@ -1,5 +1,5 @@
 -- What a length leaves in its work entries: entry n is place n's.
-use Rattle.std.specs.Prelude.{◌≡◌, ℕ, ◌*◌, ◌/◌, ◌%◌, ◌≤◌, true, List, ◌≢◌, slice_index_or}
+use Rattle.std.specs.Prelude.{◌≡◌, ℕ, ◌*◌, ◌/◌, ◌%◌, ◌≤◌, true, List, Result, IfOk, ◌≢◌, slice_index_or}
 use Rattle.floor.specs.declared.Cell.{Cell}
 use Rattle.floor.specs.declared.Counts.{Counts}
 use Rattle.floor.specs.declared.Heading.{Heading}
@@ -11,7 +11,10 @@ use Rattle.rate.specs.declared.Comparison.TheVariants.{Cheaper}
 use Rattle.rate.specs.Laws.{AtLeast}
 use Rattle.search.specs.declared.entry.Entry.{Entry}
 use Rattle.search.specs.Mark.{way, blank, count, finished, finishes}
+use Rattle.search.specs.declared.Work.{Work}
 use Rattle.lengths.specs.declared.answers.Measured.{Measured}
+use Rattle.lengths.specs.declared.answers.Refusal.{Refusal}
+use Rattle.lengths.specs.Lists.{of_places}
 
 -- how many cells of a plan are open
 abbrev pub open_cells : Plan → ℕ
@@ -33,3 +36,7 @@ pub record Searched (order : Counts → Counts → Comparison) (p : Plan) (s t :
   -- if start and target differ, a place on the target is marked, and so is every place with a chain cheaper than the answer
   pub target : (s ≢ t) → (h : Heading) × (finished es (place_number p.cols t h) ≡ true)
   pub cheaper : (s ≢ t) → (c : Cell) (h : Heading) (m : Counts) → Chain p (point s) (point t) (place (point c) h) m → order m n.counts ≡ Cheaper → finished es (place_number p.cols c h) ≡ true
+
+-- a call that finds a length, or a route with it, leaves the entries of all places so
+abbrev pub LeftSearched : {A : Type 0} → (Counts → Counts → Comparison) → Plan → Cell → Cell → Work → Result A Refusal → (A → Measured) → Type 0
+LeftSearched order p s t work r length_of = IfOk r (λ a. Searched order p s t (of_places p work.entries.now) (length_of a))

@@ -1,15 +1,13 @@
 // The corners of a cheapest route, from the entries that a search leaves.
-ghost use Rattle.std.specs.Prelude.{◌≡◌, ℕ, ◌+◌, ◌<◌, ◌≤◌, not, List, [], ◌∷◌, ◌++◌, length, take, drop, IfOk, IfErr, ◌≢◌};
+ghost use Rattle.std.specs.Prelude.{◌≡◌, ℕ, ◌+◌, ◌<◌, ◌≤◌, not, List, [], ◌∷◌, ◌++◌, length, take, drop};
 ghost use Rattle.floor.specs.declared.Cell.{Cell as Spot};
 ghost use Rattle.floor.specs.Plane.{same};
 ghost use Rattle.search.specs.Mark.{marks};
 ghost use Rattle.places.specs.Leaps.{cell_of, heading_of};
 ghost use Rattle.floor.specs.Plans.{legal};
-ghost use Rattle.lengths.specs.declared.answers.Refusal.TheVariants.{NoRoute};
-ghost use Rattle.lengths.specs.Questions.{places as places_of};
 ghost use Rattle.lengths.specs.Answers.{RouteTold, drawn_costs, corner_count};
-ghost use Rattle.lengths.specs.Lists.{Spared};
-ghost use Rattle.lengths.specs.Searched.{Searched};
+ghost use Rattle.lengths.specs.Lists.{Roomy, of_places, Spared, Untouched};
+ghost use Rattle.lengths.specs.Searched.{LeftSearched};
 ghost use Rattle.lengths.specs.Trail.{Trail, Falls};
 
 use crate::answers::{Drawn, Measured, Refusal};
@@ -39,10 +37,10 @@ fn write_corners<S: JumpSource>(
     corners: &mut [Cell],
 ) -> usize
     requires some { 0 < (S.JumpSource.meaning source.now).cols }
-    requires way { (cs : List Spot) × Trail (S.JumpSource.meaning source.now).cols start (marks (take (places_of (S.JumpSource.meaning source.now)) work.now.entries.now)) place cs × (length cs + 1 ≤ length corners.old) }
-    requires held { places_of (S.JumpSource.meaning source.now) ≤ length work.now.entries.now }
-    requires falls { Falls (marks (take (places_of (S.JumpSource.meaning source.now)) work.now.entries.now)) }
-    ensures { (cs : List Spot) → Trail (S.JumpSource.meaning source.now).cols start (marks (take (places_of (S.JumpSource.meaning source.now)) work.now.entries.now)) place cs → (result ≡ length cs + 1) × (corners.new ≡ (cs ++ cell_of (S.JumpSource.meaning source.now).cols place ∷ []) ++ drop result corners.old) }
+    requires way { (cs : List Spot) × Trail (S.JumpSource.meaning source.now).cols start (marks (of_places (S.JumpSource.meaning source.now) work.now.entries.now)) place cs × (length cs + 1 ≤ length corners.old) }
+    requires held { Roomy (S.JumpSource.meaning source.now) work.now.entries.now }
+    requires falls { Falls (marks (of_places (S.JumpSource.meaning source.now) work.now.entries.now)) }
+    ensures { (cs : List Spot) → Trail (S.JumpSource.meaning source.now).cols start (marks (of_places (S.JumpSource.meaning source.now) work.now.entries.now)) place cs → (result ≡ length cs + 1) × (corners.new ≡ (cs ++ cell_of (S.JumpSource.meaning source.now).cols place ∷ []) ++ drop result corners.old) }
 {
     let cols = source.size().cols;
     let all = &*work.entries;
@@ -76,9 +74,9 @@ pub fn draw<S: JumpSource, R: Rate>(
 ) -> Result<Drawn, Refusal>
     ensures told { RouteTold (R.Rate.order rate.now) legal (S.JumpSource.meaning source.now) start target (length work.old.entries.now) (length work.old.waiting.now) (length corners.old) (take (corner_count result) corners.new) (drawn_costs result) }
     ensures past { (corner_count result ≤ length corners.old) × (drop (corner_count result) corners.new ≡ drop (corner_count result) corners.old) }
-    ensures searched { IfOk result (λ n. Searched (R.Rate.order rate.now) (S.JumpSource.meaning source.now) start target (take (places_of (S.JumpSource.meaning source.now)) work.new.entries.now) n.measured) }
+    ensures searched { LeftSearched (R.Rate.order rate.now) (S.JumpSource.meaning source.now) start target work.new result (λ n. n.measured) }
     ensures rest { Spared (S.JumpSource.meaning source.now) work.old work.new }
-    ensures same { IfErr result (λ e. (e ≢ NoRoute) → work.new ≡ work.old) }
+    ensures same { Untouched work.old work.new result }
 {
     check_route(source, start, target, Room::of(work), corners.len())?;
     if start == target {

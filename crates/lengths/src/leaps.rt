@@ -46,7 +46,7 @@ impl<'a, S: JumpSource> Leaps<'a, S> {
     }
 
     // The edge of the leap from a place in a heading, if it goes on so.
-    // Kept: cell and heading apart, not as a Place: so rows and columns are known to be small, and searches on words take 0.2 % fewer instructions.
+    // Kept: cell and heading apart: as a Place, rows and columns are no longer known to be small, and searches take 0.1 to 0.4 % more instructions.
     fn from_place(&self, number: u32, heading: Heading) -> Option<Edge>
         requires { 0 < (S.JumpSource.meaning self.now.source.now).cols }
         ensures { result ≡ leap_in (S.JumpSource.meaning self.now.source.now) self.now.start self.now.target (Position.Place number) heading }

@@ -1,15 +1,14 @@
 // The length of a cheapest route between two cells, over a borrowed source and a borrowed rate.
-ghost use Rattle.std.specs.Prelude.{◌≡◌, ℕ, ◌≤◌, length, take, drop, IfOk, IfErr, ◌≢◌};
+ghost use Rattle.std.specs.Prelude.{◌≡◌, ℕ, length, drop};
 ghost use Rattle.floor.specs.Tally.{none};
 ghost use Rattle.floor.specs.Plans.{legal};
 ghost use Rattle.search.specs.Mark.{marks, Unmet};
 ghost use Rattle.search.specs.Answer.{Answered};
 ghost use Rattle.places.specs.Leaps.{out, goal};
-ghost use Rattle.lengths.specs.declared.answers.Refusal.TheVariants.{NoRoute};
 ghost use Rattle.lengths.specs.Questions.{places as places_of};
 ghost use Rattle.lengths.specs.Answers.{costs, LengthTold};
-ghost use Rattle.lengths.specs.Lists.{Spared};
-ghost use Rattle.lengths.specs.Searched.{Searched};
+ghost use Rattle.lengths.specs.Lists.{Roomy, of_places, Spared, Untouched};
+ghost use Rattle.lengths.specs.Searched.{LeftSearched};
 
 use crate::answers::{Measured, Refusal};
 use crate::asking::{Room, check, places};
@@ -28,9 +27,9 @@ pub fn reach<S: JumpSource, R: Rate>(
     target: Cell,
     work: &mut Work<'_>,
 ) -> Option<Found>
-    requires entries { places_of (S.JumpSource.meaning source.now) ≤ length work.old.entries.now }
-    requires waiting { places_of (S.JumpSource.meaning source.now) ≤ length work.old.waiting.now }
-    ensures answered { Answered (out (S.JumpSource.meaning source.now) start target) (R.Rate.order rate.now) (goal (S.JumpSource.meaning source.now) start target) (take (places_of (S.JumpSource.meaning source.now)) work.new.entries.now) result }
+    requires entries { Roomy (S.JumpSource.meaning source.now) work.old.entries.now }
+    requires waiting { Roomy (S.JumpSource.meaning source.now) work.old.waiting.now }
+    ensures answered { Answered (out (S.JumpSource.meaning source.now) start target) (R.Rate.order rate.now) (goal (S.JumpSource.meaning source.now) start target) (of_places (S.JumpSource.meaning source.now) work.new.entries.now) result }
     ensures rest { Spared (S.JumpSource.meaning source.now) work.old work.new }
 {
     let graph = Leaps {
@@ -43,9 +42,9 @@ pub fn reach<S: JumpSource, R: Rate>(
 
 // Where start and target are one cell there is nothing to search, and nothing is finished.
 pub(crate) fn stay<S: JumpSource>(source: &S, entries: &mut [Entry]) -> Measured
-    requires { places_of (S.JumpSource.meaning source.now) ≤ length entries.old }
+    requires { Roomy (S.JumpSource.meaning source.now) entries.old }
     ensures nothing { (result.counts ≡ none) × (result.finished ≡ 0) }
-    ensures cleared { (k : ℕ) → marks (take (places_of (S.JumpSource.meaning source.now)) entries.new) k ≡ Unmet }
+    ensures cleared { (k : ℕ) → marks (of_places (S.JumpSource.meaning source.now) entries.new) k ≡ Unmet }
     ensures rest { drop (places_of (S.JumpSource.meaning source.now)) entries.new ≡ drop (places_of (S.JumpSource.meaning source.now)) entries.old }
 {
     clear(&mut entries[..places(source)]);
@@ -65,9 +64,9 @@ pub fn measure<S: JumpSource, R: Rate>(
     work: &mut Work<'_>,
 ) -> Result<Measured, Refusal>
     ensures told { LengthTold (R.Rate.order rate.now) legal (S.JumpSource.meaning source.now) start target (length work.old.entries.now) (length work.old.waiting.now) (costs result) }
-    ensures searched { IfOk result (λ n. Searched (R.Rate.order rate.now) (S.JumpSource.meaning source.now) start target (take (places_of (S.JumpSource.meaning source.now)) work.new.entries.now) n) }
+    ensures searched { LeftSearched (R.Rate.order rate.now) (S.JumpSource.meaning source.now) start target work.new result (λ n. n) }
     ensures rest { Spared (S.JumpSource.meaning source.now) work.old work.new }
-    ensures same { IfErr result (λ e. (e ≢ NoRoute) → work.new ≡ work.old) }
+    ensures same { Untouched work.old work.new result }
 {
     check(source, start, target, Room::of(work))?;
     if start == target {

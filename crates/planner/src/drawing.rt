@@ -1,11 +1,9 @@
 // A cheapest route between two cells of a planner's floor, by its corners.
-ghost use Rattle.std.specs.Prelude.{◌≡◌, ◌≤◌, length, take, drop, IfOk, IfErr, ◌≢◌};
+ghost use Rattle.std.specs.Prelude.{◌≡◌, ◌≤◌, length, take, drop};
 ghost use Rattle.floor.specs.Plans.{legal};
-ghost use Rattle.lengths.specs.declared.answers.Refusal.TheVariants.{NoRoute};
-ghost use Rattle.lengths.specs.Questions.{places as places_of};
 ghost use Rattle.lengths.specs.Answers.{RouteTold, drawn_costs, corner_count};
-ghost use Rattle.lengths.specs.Lists.{Spared};
-ghost use Rattle.lengths.specs.Searched.{Searched};
+ghost use Rattle.lengths.specs.Lists.{Spared, Untouched};
+ghost use Rattle.lengths.specs.Searched.{LeftSearched};
 
 use crate::marking::Planner;
 use floor::Cell;
@@ -25,9 +23,9 @@ impl<S: JumpSource, R: Rate> Planner<S, R> {
     ) -> Result<Drawn, Refusal>
         ensures told { RouteTold (R.Rate.order self.now.rate) legal (S.JumpSource.meaning self.now.source) start target (length work.old.entries.now) (length work.old.waiting.now) (length corners.old) (take (corner_count result) corners.new) (drawn_costs result) }
         ensures past { (corner_count result ≤ length corners.old) × (drop (corner_count result) corners.new ≡ drop (corner_count result) corners.old) }
-        ensures searched { IfOk result (λ n. Searched (R.Rate.order self.now.rate) (S.JumpSource.meaning self.now.source) start target (take (places_of (S.JumpSource.meaning self.now.source)) work.new.entries.now) n.measured) }
+        ensures searched { LeftSearched (R.Rate.order self.now.rate) (S.JumpSource.meaning self.now.source) start target work.new result (λ n. n.measured) }
         ensures rest { Spared (S.JumpSource.meaning self.now.source) work.old work.new }
-        ensures same { IfErr result (λ e. (e ≢ NoRoute) → work.new ≡ work.old) }
+        ensures same { Untouched work.old work.new result }
     {
         draw(&self.source, &self.rate, start, target, work, corners)
     }

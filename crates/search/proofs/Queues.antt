@@ -1,5 +1,5 @@
 -- What the queue keeps as a place is put in, made cheaper or taken out.
-use Rattle.std.proofs.Common.{◌≡◌, ℕ, suc, ◌<◌, ◌≤◌, Bool, true, false, ltb, ◌⊎◌, List, [], ◌∷◌, length, get_or, sym, refl, ap, ◌∙◌, subst, inl, inr, arith}
+use Rattle.std.proofs.Common.{◌≡◌, ℕ, suc, ◌<◌, Bool, true, false, ltb, ◌⊎◌, List, [], ◌∷◌, length, get_or, sym, refl, ap, ◌∙◌, subst, inl, inr, arith}
 use Rattle.std.specs.List.Sorted.{IsPermutation}
 use Rattle.std.specs.List.{ContainsAt as Has, AllByRecursion}
 use Rattle.std.proofs.ByRecursion.{All-from_get_or, All-get_or, all-has, has_get_or, all_shuffled, has_shuffled}
@@ -17,7 +17,7 @@ use Rattle.search.specs.declared.entry.Reached.{Reached}
 use Rattle.search.specs.Mark.{Mark, Unmet, Waits, Done, is_waiting, key, Becomes}
 use Rattle.search.specs.Search.{NoDearer}
 use Rattle.search.specs.Queue.{tie_broken, sooner, turns, sooner_rank, Stands, Queue, First}
-use Rattle.search.proofs.Marks.{count_le, count_lt, count_up, count_same, count_none}
+use Rattle.search.proofs.Marks.{count_lt, count_up, count_same, count_none}
 
 has_rest : (x p : ℕ) (xs : List ℕ) → Has xs p → Has (x ∷ xs) p
 has_rest x p xs h = all-has (Has (x ∷ xs)) xs p (All-from_get_or _ xs 0 (λ k f. has_get_or (x ∷ xs) (suc k) 0 (omega arith))) h
@@ -94,9 +94,6 @@ module _ (order : Counts → Counts → Comparison) (n : ℕ) where
     pub waits_all : AllByRecursion (λ a. is_waiting (s a) ≡ true) qs
     unfolding Indexed
     waits_all = All-from_get_or _ qs 0 (λ k f. (queue.heap.indexed k 0 f).waits)
-
-    pub few : length qs ≤ n
-    few = let a = count_le (λ k. is_waiting (s k)) n in let b = queue.many in omega arith
 
     -- a place that does not wait is not in the queue, and there is room for it
     pub away : (p : ℕ) → is_waiting (s p) ≡ false → AllByRecursion (λ a. p ≡ a → ⊥) qs

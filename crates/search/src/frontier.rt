@@ -1,12 +1,10 @@
 // The places that a search has reached: the entries of all, and those that wait, in the order in which they are to be finished.
-ghost use Rattle.std.specs.Prelude.{◌≡◌, ℕ, ◌+◌, ◌^◌, ◌<◌, ◌≤◌, true, false, MatchOption, length, ◌≢◌, slice_index_or};
-ghost use Rattle.floor.specs.Tally.{plus, steps};
-ghost use Rattle.search.specs.Chain.{most};
-ghost use Rattle.search.specs.Mark.{Unmet, Waits, Done, marks, slots, way, key, how, blank, is_waiting, finished, Becomes};
+ghost use Rattle.std.specs.Prelude.{◌≡◌, ℕ, ◌+◌, ◌<◌, true, false, MatchOption, length, ◌≢◌};
+ghost use Rattle.search.specs.Mark.{Unmet, Waits, Done, marks, slots, way, key, how, is_waiting, finished, Becomes};
 ghost use Rattle.search.specs.Search.{NoDearer, Noted};
 ghost use Rattle.search.specs.Queue.{sooner as before, turns, Waiter, Stands, Kept, places_lawful, First};
 ghost use Rattle.search.specs.Answer.{Answered};
-ghost use Rattle.search.specs.Frontier.{Queued, Standing, SameFrontier};
+ghost use Rattle.search.specs.Frontier.{Queued, Standing, Offered, SameFrontier};
 
 use crate::Found;
 use crate::entry::{Entry, Reached, State};
@@ -81,6 +79,7 @@ impl<'a, R: Rate> Order<u32> for ByCost<'a, R> {
 // Kept: the queue is no invariant of the type; it is wrong between the write of an entry and the move in the heap that follows.
 // Kept: with the waiting list itself in place of a borrow, what the entries are when this struct is let go is not proved; it is no faster.
 // Kept: the order is made anew at each move in the heap: within this struct it would hold the entries, and what they are when both are let go is not proved.
+// Kept: the graph stands beside this struct, not in it, and with it that there are as many entries as places: within, searches take 4 to 16 % more instructions.
 #[derive(Drop)]
 pub(crate) struct Frontier<'a, 'b, R> {
     pub(crate) entries: &'a mut [Entry],
@@ -91,7 +90,7 @@ pub(crate) struct Frontier<'a, 'b, R> {
 impl<'a, 'b, R: Rate> Frontier<'a, 'b, R> {
     // Lets a place wait that does not.
     fn add(&mut self, place: u32, new: Reached)
-        requires within { (place < length self.old.entries.now) × (steps new.counts ≤ most) }
+        requires within { Offered self.old place new }
         requires queued { Queued R.Rate.order self.old }
         requires idle { is_waiting (marks self.old.entries.now place) ≡ false }
         ensures queued { Queued R.Rate.order self.new }
@@ -106,9 +105,10 @@ impl<'a, 'b, R: Rate> Frontier<'a, 'b, R> {
         self.places.put(place, order);
     }
 
-    // Makes a place cheaper that waits.
+    // Makes a place cheaper that waits. Seldom asked for, and not inlined, so that `note` stays short: searches take up to 2 % fewer instructions.
+    #[inline(never)]
     fn improve(&mut self, place: u32, new: Reached)
-        requires within { (place < length self.old.entries.now) × (steps new.counts ≤ most) }
+        requires within { Offered self.old place new }
         requires queued { Queued R.Rate.order self.old }
         requires waits { is_waiting (marks self.old.entries.now place) ≡ true }
         requires better { NoDearer (R.Rate.order self.old.rate.now) new.counts (key (marks self.old.entries.now place)) }
@@ -145,7 +145,7 @@ impl<'a, 'b, R: Rate> Frontier<'a, 'b, R> {
 
     // Notes that a place can be reached so.
     fn note(&mut self, place: u32, new: Reached)
-        requires within { (place < length self.old.entries.now) × (steps new.counts ≤ most) }
+        requires within { Offered self.old place new }
         requires queued { Queued R.Rate.order self.old }
         ensures queued { Queued R.Rate.order self.new }
         ensures noted { Noted (R.Rate.order self.old.rate.now) (marks self.old.entries.now) (marks self.new.entries.now) place new }
@@ -186,7 +186,7 @@ impl<'a, 'b, R: Rate> Frontier<'a, 'b, R> {
         }
     }
 
-    // Follows the edges of all eight turns. As a call of its own, for each place finished, searches on a table take 6 % more instructions.
+    // Follows the edges of all eight turns. Inlined, since as a call of its own, for each place finished, it makes searches take 1 to 6 % more instructions.
     #[inline(always)]
     pub(crate) fn follow_all<G: Graph>(&mut self, graph: &G, from: Position, base: Reached)
         requires sized { length self.old.entries.now ≡ G.Graph.size graph.now }

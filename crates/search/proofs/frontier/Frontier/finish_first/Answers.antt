@@ -1,20 +1,9 @@
-use Rattle.std.proofs.Common.{◌<◌, List, length, length-set, sym, subst, arith, ◌∙◌, rules}
-use Rattle.std.proofs.lemmas.List.{length-take-le}
+use Rattle.std.proofs.Common.{◌<◌, List, length, length-set, sym, subst, ◌∙◌, rules}
 use Rattle.waiting.specs.Held.{held}
 use Rattle.search.specs.declared.entry.Entry.{Entry}
-use Rattle.search.specs.Mark.{Done, how, marks, slots, Becomes}
-use Rattle.search.proofs.Queues as queues
+use Rattle.search.specs.Mark.{Done, how, marks, Becomes}
 use Rattle.search.proofs.Moves as moves
 use Rattle.search.proofs.frontier.Frontier.finish_first.Goals as goal
-
-pub take_first-requires-clause-few : goal.take_first-requires-clause-few
-take_first-requires-clause-few g c =
-    let f = c.args.self.now in
-    let es = f.entries.now in
-    let long = length-take-le f.places.now.len f.places.now.slots.now f.places.now.fits in
-    let all = queues.few (g.R.Rate.order f.rate.now) (length es) (marks es) (slots es) (held f.places.now) c.requires.queued.queue in
-    let few = c.requires.queued.few in
-    omega arith
 
 pub bounds-self-place : goal.bounds-self-place
 bounds-self-place g c =

@@ -16,9 +16,7 @@ raise-requires-clause-within g c =
     let q = c.requires.queued.queue in
     let long = length-take-le f.places.now.len f.places.now.slots.now f.places.now.fits in
     let stands = queues.stands order (length es) (marks es) (slots es) (held f.places.now) q c.args.place c.requires.waits in
-    let all = queues.few order (length es) (marks es) (slots es) (held f.places.now) q in
-    let few = c.requires.queued.few in
-    (omega arith, omega arith)
+    omega arith
 
 pub raise-requires-clause-raised : goal.raise-requires-clause-raised
 unfolding slots
