@@ -25,14 +25,15 @@ fn reply_to<S: JumpSource, R: Rate>(
     ensures plan { S.JumpSource.meaning planner.new.source ≡ after_by (S.JumpSource.meaning planner.old.source) query (action_in query) }
     ensures rate { planner.new.rate ≡ planner.old.rate }
 {
-    match query.action() {
-        Action::Close => Reply::to_change(planner.close(query.cell())),
-        Action::Open => Reply::to_change(planner.open(query.cell())),
-        Action::Measure => Reply::to_length(planner.length(query.cell(), query.target(), work)),
+    match Action::from(query) {
+        Action::Close => Reply::from(planner.close(query.cell())),
+        Action::Open => Reply::from(planner.open(query.cell())),
+        Action::Measure => Reply::from(planner.length(query.cell(), query.target(), work)),
     }
 }
 
 // Puts all of them in order.
+// Kept, here and below: queries and replies are two arguments, as C lends them; a struct of both would only be taken apart: no plainer.
 fn reply_all<S: JumpSource, R: Rate>(
     planner: &mut Planner<S, R>,
     queries: &[Query],
@@ -43,8 +44,7 @@ fn reply_all<S: JumpSource, R: Rate>(
     ensures right { AllRight (R.Rate.order planner.old.rate) (length work.old.entries.now) (length work.old.waiting.now) (S.JumpSource.meaning planner.old.source) queries.now replies.new }
     ensures rest { drop (length queries.now) replies.new ≡ drop (length queries.now) replies.old }
 {
-    // Kept: over both lists at once, as `queries.iter().zip(replies.iter_mut())`, it is not proved: the loop's record has no name for the replies, and of
-    // what they hold after the loop nothing is given to `right` and `rest`.
+    // Kept: over both lists at once, by zip and iter_mut, it is not proved: nothing is known, after the loop, of what the replies hold.
     for (i, query) in queries.iter().enumerate() {
         replies[i] = reply_to(planner, *query, work);
     }

@@ -31,7 +31,7 @@ fn answer_on<'a, S: OnMemory<'a> + Drop>(
     run(heap, &mut source, &ExactRate, queries, replies).is_ok()
 }
 
-// Kept, here and below: C lends memory, rows and columns as they are.
+// Kept, here and below: C calls each source by a name of its own, and lends memory, rows and columns as they are.
 #[unsafe(no_mangle)]
 pub extern "C" fn planner_on_bytes(
     heap: Global,

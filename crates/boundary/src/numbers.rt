@@ -36,17 +36,19 @@ pub struct Reply {
     pub finished: usize,
 }
 
-impl Query {
-    pub fn action(self) -> Action
-        ensures { result ≡ action_in self }
-    {
-        match self.what {
+impl From<Query> for Action {
+    ghost from_gives = { λ query action. action ≡ action_in query };
+
+    fn from(query: Query) -> Action {
+        match query.what {
             0 => Action::Close,
             1 => Action::Open,
             _ => Action::Measure,
         }
     }
+}
 
+impl Query {
     pub fn cell(self) -> Cell
         ensures { result ≡ cell_in self }
     {
@@ -74,33 +76,39 @@ impl Reply {
         diagonal: 0,
         finished: 0,
     };
+}
 
-    fn refused(refusal: Refusal) -> Reply
-        ensures { result ≡ refusal_reply refusal }
-    {
+impl From<Refusal> for Reply {
+    ghost from_gives = { λ refusal reply. reply ≡ refusal_reply refusal };
+
+    fn from(refusal: Refusal) -> Reply {
         Reply {
             refusal: u32::from(refusal.number()),
             ..Reply::EMPTY
         }
     }
+}
 
-    // To an open or a close.
-    pub fn to_change(answer: Result<bool, Refusal>) -> Reply
-        ensures { result ≡ change_reply answer }
-    {
+// To an open or a close.
+impl From<Result<bool, Refusal>> for Reply {
+    ghost from_gives = { λ answer reply. reply ≡ change_reply answer };
+
+    fn from(answer: Result<bool, Refusal>) -> Reply {
         match answer {
             Ok(changed) => Reply {
                 changed: u32::from(changed),
                 ..Reply::EMPTY
             },
-            Err(refusal) => Reply::refused(refusal),
+            Err(refusal) => Reply::from(refusal),
         }
     }
+}
 
-    // To a length.
-    pub fn to_length(answer: Result<Measured, Refusal>) -> Reply
-        ensures { result ≡ length_reply answer }
-    {
+// To a length.
+impl From<Result<Measured, Refusal>> for Reply {
+    ghost from_gives = { λ answer reply. reply ≡ length_reply answer };
+
+    fn from(answer: Result<Measured, Refusal>) -> Reply {
         match answer {
             Ok(measured) => Reply {
                 straight: measured.counts.straight,
@@ -108,7 +116,7 @@ impl Reply {
                 finished: measured.finished,
                 ..Reply::EMPTY
             },
-            Err(refusal) => Reply::refused(refusal),
+            Err(refusal) => Reply::from(refusal),
         }
     }
 }

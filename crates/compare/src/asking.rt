@@ -91,7 +91,7 @@ fn put_marks<S: JumpSource, R: Rate>(
 
 // A label holds the steps; one of a dead jump has 32,768 added.
 // Kept: a jump is a pair of steps and a live flag, the form in which every source answers it; and the label is worked out here, beside the
-// sources' own, since what checks their answers shares no formula with them.
+// sources' own, since it is a rule of the project that what checks the answers shares no formula with them.
 fn label_of(jump: (u16, bool)) -> u16 {
     if jump.1 {
         jump.0

@@ -49,6 +49,7 @@ const CASES: [Case; 13] = [
 ];
 
 // How many cells a loop has, from the first corner to the next and back again; how many legs and entries are lent; number and leg of the refusal.
+// Kept, here and in the two tables below: fields without names, a case to a line; as a struct each would take as many lines as it has fields, and be no plainer.
 const LOOPS: [(usize, usize, usize, Option<(u8, usize)>); 10] = [
     (0, 64, 72, Some((8, 0))),
     (1, 64, 72, Some((8, 0))),

@@ -97,13 +97,10 @@ fn pick(grid: &Grid, dice: &mut Dice) -> Cell {
     if dice.chance(8) {
         return dice.cell(grid.size.widened());
     }
-    for _ in 0..24 {
-        let cell = dice.cell(grid.size);
-        if grid.is_open(cell) {
-            return cell;
-        }
-    }
-    dice.cell(grid.size)
+    (0..24)
+        .map(|_| dice.cell(grid.size))
+        .find(|cell| grid.is_open(*cell))
+        .unwrap_or_else(|| dice.cell(grid.size))
 }
 
 fn picks(
@@ -115,6 +112,7 @@ fn picks(
     (0..count).map(|_| pick(grid, dice)).collect(heap)
 }
 
+// Kept: the planner's questions once more, since it is a rule of the project that what checks the answers shares no formula with them.
 fn plain_reply(field: &Field<'_>, start: Cell, target: Cell) -> Reply {
     let grid = field.grid;
     if grid.place(start).is_none() {
@@ -186,18 +184,18 @@ pub fn remark(
     dice: &mut Dice,
     count: usize,
 ) -> Result<Vec<Mark>, AllocError> {
-    let mut marks = Vec::new(heap);
-    for _ in 0..count {
-        let cell = dice.cell(grid.size.widened());
-        let open = dice.chance(50);
-        let changes = grid.mark(cell, open);
-        marks.push(Mark {
-            cell,
-            open,
-            changes,
-        })?;
-    }
-    Ok(marks)
+    let size = grid.size.widened();
+    (0..count)
+        .map(|_| {
+            let cell = dice.cell(size);
+            let open = dice.chance(50);
+            Mark {
+                cell,
+                open,
+                changes: grid.mark(cell, open),
+            }
+        })
+        .collect(heap)
 }
 
 // What is asked of a floor as it is now.

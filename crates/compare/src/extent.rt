@@ -1,7 +1,7 @@
 // A floor's size, and the cells that it has.
 use floor::Cell;
 
-// Kept: beside the sources' own size, since what checks the planner's answers shares no formula with it.
+// Kept: beside the sources' own size, since it is a rule of the project that what checks the answers shares no formula with them.
 #[derive(Clone, Copy)]
 pub struct Extent {
     pub rows: usize,
@@ -15,6 +15,7 @@ impl Extent {
     }
 
     // The cell at a place, counted row by row.
+    // Kept: who goes over all cells maps the places to them; an iterator of the cells would take more lines than it would spare, and be no plainer.
     pub fn cell_at(self, place: usize) -> Cell {
         let cols = self.cols.max(1);
         Cell {

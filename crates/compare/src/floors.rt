@@ -7,7 +7,7 @@ use floor::Cell;
 use std::fmt;
 
 // Rows and columns. A row or a column of a packed floor is a word up to 64 cells and two words beyond.
-// Kept: pairs, since no size has a meaning of its own here; as structs they would be no plainer.
+// Kept: rows and columns as two numbers, a size to a line; as an Extent each would take four lines, and be no plainer.
 pub const SIZES: [(usize, usize); 20] = [
     (1, 1),
     (1, 2),
@@ -76,6 +76,7 @@ impl fmt::Display for Kind {
 
 impl Kind {
     // Lays out a floor on which every cell is closed.
+    // Kept, here, below and in `exam`: floor and dice are two arguments, since nothing holds of the pair and a struct would only be taken apart: no plainer.
     pub fn lay_out(self, grid: &mut Grid, dice: &mut Dice) {
         match self {
             Kind::Open => scatter(grid, dice, 0),

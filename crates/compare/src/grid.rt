@@ -1,4 +1,5 @@
 // A floor held cell by cell, with the legal steps and the jumps written out plainly.
+// Kept: beside the sources' own steps and jumps, since it is a rule of the project that what checks the answers shares no formula with them.
 use crate::extent::Extent;
 use floor::Cell;
 use std::alloc::{AllocError, Global};

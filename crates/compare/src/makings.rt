@@ -12,7 +12,7 @@ use source::{JumpSource, Size, SizeRefusal};
 use std::alloc::{AllocError, Global};
 
 // Rows, columns, and the number that refuses them however much memory there is.
-// Kept: pairs, since no size has a meaning of its own here; as structs they would be no plainer.
+// Kept: rows and columns as two numbers, a size to a line; as an Extent each would take four lines, and be no plainer.
 const SIZES: [(usize, usize, Option<u8>); 13] = [
     (1, 1, None),
     (128, 1, None),
@@ -79,6 +79,7 @@ fn make_nothing<W: Word>(heap: Global, line: &mut Line) -> Result<(), AllocError
     Ok(())
 }
 
+// Kept: sizes are compared by rows and columns, since a Size of an Extent's numbers comes only with the answer of a size check: no plainer.
 fn is_closed<S: JumpSource>(source: &S, size: Extent) -> bool {
     let closed = (0..size.cells()).all(|place| !source.is_open(size.cell_at(place)));
     let told = source.size();

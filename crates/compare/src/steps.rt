@@ -17,7 +17,7 @@ pub fn steps_on(heading: usize, steps: u32) -> Counts {
 }
 
 // The counts of one way after another, if they are not too large.
-// Kept: beside the planner's own sum of counts, since what checks its answers shares no formula with it.
+// Kept: beside the planner's own sum of counts, since it is a rule of the project that what checks the answers shares no formula with them.
 pub fn both(first: Counts, second: Counts) -> Option<Counts> {
     Some(Counts {
         straight: first.straight.checked_add(second.straight)?,

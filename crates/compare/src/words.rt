@@ -16,7 +16,7 @@ pub trait Word: Copy + PartialEq + From<u8> {
     const OPEN: Self;
 
     // How many words a plan of this size takes.
-    // Kept: worked out here, and not asked of the source, since what checks a source's answers shares no formula with it.
+    // Kept: worked out here, and not asked of the source, since it is a rule of the project that what checks the answers shares no formula with them.
     fn needed(size: Extent) -> usize;
 
     // The size of the plan, if it can be laid on so many words.

@@ -102,6 +102,7 @@ fn amount_of(side: u32, leg: usize, counts: Counts) -> Result<Amount, ListingRef
 }
 
 // Writes the values of a line after its name.
+// Kept, here and below: put to the page and not by `write!`, for the reason that `writing` gives: nothing says that a page with room answers Ok.
 fn put_values(page: &mut Page, amount: Amount)
     requires { Fits page.old (values amount) }
     ensures { Added page.old (values amount) page.new }

@@ -1,6 +1,7 @@
 // The walks that mend a table once more, over a copy of its labels, with a count of the labels read and written.
+// Kept: the table's walk once more, over a copy, since the proved code counts nothing; a count within the table would be carried by every mark, and be no plainer.
 use floor::{Cell, Heading, Side};
-use source::JumpSource;
+use source::{DEAD, JumpSource};
 use std::alloc::{AllocError, Global};
 use table::TableSource;
 
@@ -9,8 +10,6 @@ pub const SIDE: usize = 128;
 
 // Eight labels for each cell.
 const LABELS: usize = 131072;
-
-const DEAD: u16 = 32768;
 
 // Straight ones first, since diagonal labels look at straight ones.
 const HEADINGS: [Heading; 8] = [
@@ -103,6 +102,7 @@ impl Twin {
     }
 
     // What a label should be. The marked floor says whether a step is legal, and whether it ends at a stop.
+    // Kept, here and below: floor, cell and heading are three arguments, since nothing holds of the three and a struct would only be taken apart: no plainer.
     fn due(&mut self, floor: &TableSource<'_>, cell: Cell, towards: Heading) -> u16 {
         let jump = floor.jump(cell, u8::from(towards));
         let Some(next) = cell.stepped(towards) else {

@@ -95,7 +95,8 @@ impl<'a> Footprint for ByteSource<'a> {
 impl<'a> OnMemory<'a> for ByteSource<'a> {
     type Word = u8;
 
-    // Kept: `make` of the source itself promises more, so it has the body, and this one hands on to it.
+    // Kept: the source's own promises what the memory holds afterwards, which this one cannot: memory lent for the trait's lifetime has no value
+    // after the call. So this one hands on.
     fn make(memory: &'a mut [u8], rows: usize, cols: usize) -> ByteSource<'a> {
         ByteSource::make(memory, rows, cols)
     }

@@ -131,7 +131,8 @@ impl<'a> Footprint for PackedSource<'a> {
 impl<'a> OnMemory<'a> for PackedSource<'a> {
     type Word = u64;
 
-    // Kept: `make` of the source itself promises more, so it has the body, and this one hands on to it.
+    // Kept: the source's own promises what the memory holds afterwards, which this one cannot: memory lent for the trait's lifetime has no value
+    // after the call. So this one hands on.
     fn make(memory: &'a mut [u64], rows: usize, cols: usize) -> PackedSource<'a> {
         PackedSource::make(memory, rows, cols)
     }

@@ -36,6 +36,7 @@ pub fn way_of(towards: Heading) -> Way
 }
 
 // The next word of a line on the way, if there is one.
+// Kept, here and below: `word < 2` is one short clause; a type for the number of a word would be made for each call and taken apart in it: no plainer.
 fn next_word(word: usize, way: Way) -> Option<usize>
     requires { word < 2 }
     ensures { result ≡ next_word way word }
@@ -47,6 +48,7 @@ fn next_word(word: usize, way: Way) -> Option<usize>
 }
 
 // Where a line opens up: the places that are open, with a closed one before them on the way.
+// Kept, here and below: line, word and way are three arguments, since nothing holds of the three and a struct would only be taken apart: no plainer.
 fn openings(line: &[u64; WORDS], word: usize, way: Way) -> u64
     requires { word < 2 }
     ensures { (i : ℕ) → i < 64 → bit result i ≡ opening line.now way (suc (64 * word + i)) }

@@ -21,6 +21,7 @@ impl Way {
     }
 }
 
+// Kept, here and below: `place < 64` is one short clause; a type for a place in a word would be made for each call and taken apart in it: no plainer.
 pub fn is_set(word: u64, place: usize) -> bool
     requires { place < 64 }
     ensures { result ≡ bit word place }

@@ -17,6 +17,7 @@ pub struct Leap {
 }
 
 // The successor of a cell on a heading towards a target, if it has one.
+// Kept, here and below: cell and heading are two arguments, since nothing holds of the pair and a struct would only be taken apart: no plainer.
 pub fn successor<S: JumpSource>(
     source: &S,
     cell: Cell,

@@ -84,6 +84,7 @@ fn length_between<S: JumpSource, R: Rate>(
 }
 
 // A planner's refusal in words. There is no loop here, and so no leg to name.
+// Kept: beside that of a leg in `quoting`, since their words differ: there the ends of a leg are named, here a cell, a start or a target; no plainer as one.
 #[derive(Clone, Copy)]
 struct Sentence(Refusal);
 

@@ -3,20 +3,13 @@
 
 mod look;
 
-use floor::Cell;
 use look::look;
 use quoting::MOST_READ;
 use report::Fault;
-use sheet::{Entry, Mark};
+use sheet::{Entry, MAX_ENTRIES};
 use std::fmt::Display;
 use std::io::Read;
 use std::process::ExitCode;
-
-const UNUSED: Entry = Entry {
-    cell: Cell { row: 0, col: 0 },
-    mark: Mark::Open,
-    line: 0,
-};
 
 // Prints what the sheet holds, and then looks at its floor.
 fn list(rt: &HostRuntime, entries: &[Entry]) -> anyhow::Result<ExitCode> {
@@ -40,7 +33,7 @@ pub(crate) fn refuse<D: Display + Drop>(
 fn main(rt: HostRuntime) -> anyhow::Result<ExitCode> {
     let mut text = Vec::new(rt.alloc());
     rt.stdin().take(MOST_READ).read_to_end(&mut text)?;
-    let mut entries = [UNUSED; 256];
+    let mut entries = [Entry::BLANK; MAX_ENTRIES];
     match sheet::read(text.as_slice(), &mut entries) {
         Ok(named) => list(&rt, &entries[0..named]),
         Err(refusal) => refuse(&rt, Fault::from(&refusal), refusal),

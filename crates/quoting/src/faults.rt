@@ -41,7 +41,8 @@ impl From<Refusal> for Fault {
 }
 
 // Writes the names and the values of a refusal.
-// Kept: no contract says that `write!` of a Display value does not fail, and a page with room is always written.
+// Kept: by `write!` to a page it was not proved, as `writing` says: nothing says that a page with room answers Ok, and only then is it promised what
+// stands there.
 fn put_fault(page: &mut Page, fault: Fault)
     requires { Fits page.old (fault_line fault) }
     ensures { Added page.old (fault_line fault) page.new }

@@ -13,13 +13,14 @@ use std::process::ExitCode;
 use telling::Told;
 
 // The floor has as many rows as columns.
+// Kept: beside those of `quoting`, since the floor here is not that of a sheet; one for both would be no plainer.
 const SIDE: usize = 16;
 
 // A byte for each cell.
-const BYTES: usize = 256;
+pub(crate) const CELLS: usize = SIDE * SIDE;
 
 // A word for each row, and one for each column.
-const WORDS: usize = 32;
+const WORDS: usize = 2 * SIDE;
 
 // Whether two answers say the same, but for what may hang on the source: the finished places, and which of the cheapest routes is drawn.
 fn agree(answer: &Answer, other: &Answer) -> bool {
@@ -53,7 +54,7 @@ fn differing(answers: &[Answer], others: &[Answer]) -> usize {
 
 fn run(rt: &HostRuntime, calls: &[Call]) -> anyhow::Result<()> {
     let heap = rt.alloc();
-    let mut bytes = [0u8; BYTES];
+    let mut bytes = [0u8; CELLS];
     let mut words = [0u64; WORDS];
     let first = ByteSource::make(&mut bytes, SIDE, SIDE);
     let second = PackedSource::make(&mut words, SIDE, SIDE);

@@ -1,4 +1,5 @@
 // Calls as they are written: one to a line, a word and then cells, parted by single spaces.
+use crate::CELLS;
 use floor::Cell;
 use history::Call;
 use lengths::Room;
@@ -7,13 +8,11 @@ use std::fmt;
 use std::fmt::Display;
 use std::num::ParseIntError;
 
-// The full lists for a floor of 16 by 16: an entry for each heading at each cell, and a corner for each cell.
+// The full lists for the floor: an entry for each heading at each cell, and a corner for each cell.
 const FULL: Room = Room {
-    entries: 2048,
-    waiting: 2048,
+    entries: 8 * CELLS,
+    waiting: 8 * CELLS,
 };
-
-const CORNERS: usize = 256;
 
 // Why a line is not a call.
 #[derive(Clone, Copy)]
@@ -73,26 +72,22 @@ fn number(field: &str) -> Result<usize, Fault> {
 }
 
 fn numbers(heap: Global, text: &str) -> Result<Vec<usize>, Fault> {
-    let mut numbers = Vec::new(heap);
-    for field in text.split(' ') {
-        numbers.push(number(field)?)?;
-    }
-    Ok(numbers)
+    text.split(' ').map(number).try_collect(heap)
 }
 
-// Each two numbers are the row and the column of a cell.
-fn paired(heap: Global, numbers: &[usize]) -> Result<Vec<Cell>, Fault> {
-    let mut cells = Vec::new(heap);
-    for pair in numbers.chunks(2) {
-        let [row, col] = pair else {
-            return Err(Fault::CellCount);
-        };
-        cells.push(Cell {
+// Two numbers are the row and the column of a cell.
+fn cell_of(pair: &[usize]) -> Result<Cell, Fault> {
+    match pair {
+        [row, col] => Ok(Cell {
             row: *row,
             col: *col,
-        })?;
+        }),
+        _ => Err(Fault::CellCount),
     }
-    Ok(cells)
+}
+
+fn paired(heap: Global, numbers: &[usize]) -> Result<Vec<Cell>, Fault> {
+    numbers.chunks(2).map(cell_of).try_collect(heap)
 }
 
 fn only(cells: &[Cell]) -> Result<Cell, Fault> {
@@ -128,7 +123,7 @@ fn named(word: &str, cells: Vec<Cell>) -> Result<Call, Fault> {
                 start,
                 target,
                 room: FULL,
-                corners: CORNERS,
+                corners: CELLS,
             })
         }
         "loop" => {
@@ -157,6 +152,7 @@ fn add(heap: Global, calls: &mut Vec<Call>, line: &str) -> Result<(), Fault> {
 }
 
 // Every line as a call, or the first line that is none.
+// Kept: a loop, since a list of calls that finds no memory is told with its line too, which a chain would not know.
 pub fn read(heap: Global, text: &str) -> Result<Vec<Call>, BadLine> {
     let mut calls = Vec::new(heap);
     for line in text.lines() {

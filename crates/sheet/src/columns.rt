@@ -7,7 +7,6 @@ ghost use Rattle.sheet.specs.Parts.{said, column_of};
 
 use crate::text::three_fields;
 use crate::{Entry, Mark, Refusal};
-use floor::Cell;
 
 // What a field of a line stands for.
 #[derive(Clone, Copy, PartialEq, Eq, Debug)]
@@ -152,9 +151,8 @@ pub fn entry_of(names: Names, line: usize, text: &[u8]) -> Result<Entry, Refusal
         return Err(Refusal::FieldCount { line });
     };
     let blank = Entry {
-        cell: Cell { row: 0, col: 0 },
-        mark: Mark::Open,
         line,
+        ..Entry::BLANK
     };
     // Kept: three lines, since a loop over columns and fields would have to count the field's number: no plainer.
     let entry = Field::new(names.first, first, line, 1).fill(blank)?;

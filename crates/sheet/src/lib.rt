@@ -36,10 +36,19 @@ pub struct Entry {
     pub line: usize,
 }
 
+impl Entry {
+    // What an entry is before a line is read into it.
+    pub const BLANK: Entry = Entry {
+        cell: Cell { row: 0, col: 0 },
+        mark: Mark::Open,
+        line: 0,
+    };
+}
+
 // The longest sheet, and how many cells it can name: 16 rows of 16.
 pub const MAX_BYTES: usize = 4096;
 
-const MAX_ENTRIES: usize = 256;
+pub const MAX_ENTRIES: usize = 256;
 
 // Whether one of the entries names the cell.
 fn names_cell(entries: &[Entry], cell: Cell) -> bool
@@ -77,6 +86,7 @@ fn read_line(names: Names, line: usize, text: &[u8], before: &[Entry]) -> Result
 }
 
 // Reads the names of the first line, and the other lines into the front of the list.
+// Kept, here, in `read` and in `quoting`: at most 256 is one short clause; a definition for it would have to be looked up, and be no plainer.
 fn read_lines(text: &[u8], entries: &mut [Entry]) -> Result<usize, Refusal>
     requires { 256 ≤ length entries.old }
     ensures answer { result ≡ answered (read_lines (pieces 10 text.now)) }
@@ -137,7 +147,7 @@ pub fn run(heap: Global, entries: &[Entry]) -> Result<Vec<Cell>, AllocError>
 }
 
 // Writes the cells of the entries that have a mark, in their order.
-// Kept beside add_marked: here memory is lent and fixed, and there a list grows and may find no memory.
+// Kept beside add_marked: here memory is lent and fixed, and there a list grows and may find no memory; one for both would be no plainer.
 fn put_marked(cells: &mut Front<'_, Cell>, entries: &[Entry], mark: Mark)
     requires { Fits cells.old (cells_marked mark entries.now) }
     ensures { Added cells.old (cells_marked mark entries.now) cells.new }

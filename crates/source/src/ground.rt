@@ -70,6 +70,7 @@ pub trait Ground {
         requires { F.IsAlwaysCallable ends }
         ensures { (mark : Point → Bool) → Tells (F.post ends) towards mark → result ≡ scanned (plan self.now) mark towards (point cell) }
     {
+        // Kept: the steps are counted by hand, since their count is the answer.
         let mut steps: u16 = 0;
         let mut at = cell;
         while let Some(next) = self.legal_step(at, towards) {

@@ -6,8 +6,8 @@ ghost use Rattle.source.specs.Labels.{label_of, said_by};
 use crate::traits::JumpSource;
 use floor::Cell;
 
-// Set in the label of a dead jump; the bits below it hold the steps.
-const DEAD: u16 = 32768;
+// Set in the label of a dead jump; the bits below it hold the steps. By itself it is the label of a dead jump of no steps, and those of live jumps are less.
+pub const DEAD: u16 = 32768;
 
 // The label of a jump.
 pub fn label(steps: u16, live: bool) -> u16

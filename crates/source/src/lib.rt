@@ -13,7 +13,7 @@ mod traits;
 pub use drawing::open_all;
 pub use extents::Size;
 pub use ground::Ground;
-pub use labelling::{label, labels, read_label};
+pub use labelling::{DEAD, label, labels, read_label};
 pub use memory::{Footprint, OnMemory};
 pub use sizes::{SizeRefusal, size_check};
 pub use traits::JumpSource;

@@ -25,7 +25,7 @@ pub trait Footprint {
 }
 
 // A source that is made on memory which is lent to it.
-// Kept: rows and columns are two numbers here too.
+// Kept: rows and columns are two numbers here too, for the same reason.
 pub trait OnMemory<'a>: JumpSource + Footprint {
     // What the memory consists of.
     type Word;

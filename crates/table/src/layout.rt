@@ -9,9 +9,9 @@ ghost use Rattle.source.specs.Within.{sized_plan};
 ghost use Rattle.table.specs.Laws.{kept_on};
 
 use crate::mending::Table;
-use crate::reading::{DEAD, View};
+use crate::reading::View;
 use floor::{Cell, Heading};
-use source::{Footprint, Ground, JumpSource, OnMemory, Size, read_label};
+use source::{DEAD, Footprint, Ground, JumpSource, OnMemory, Size, read_label};
 
 // The ninth number of a closed cell.
 const CLOSED: u16 = 0;
@@ -39,7 +39,8 @@ impl<'a> TableSource<'a> {
         }
     }
 
-    // Kept: a table has these lines too. A view is made by its two fields as they stand, and no function for both would spare either its promise.
+    // Kept: a table has these lines too, for the reason given there: with the view made where it is asked for, the check does not know any
+    // more, once it is let go, that the numbers are as before.
     fn view(&self) -> View<'_>
         ensures { (result.size ≡ self.now.size) × (result.numbers.now ≡ self.now.numbers.now) }
     {
@@ -66,6 +67,7 @@ impl<'a> TableSource<'a> {
 }
 
 // Writes numbers as those of closed cells.
+// Kept: over nine numbers at a time, by chunks_exact_mut or as_chunks_mut, it was not proved: nothing is known afterwards of what the numbers are.
 fn close_all(numbers: &mut [u16])
     ensures { (k : ℕ) → k < length numbers.old → slice_index numbers.new k ≡ (if nat_eq (k % 9) 8 then 0 else 32768) }
 {
@@ -130,7 +132,8 @@ impl<'a> Footprint for TableSource<'a> {
 impl<'a> OnMemory<'a> for TableSource<'a> {
     type Word = u16;
 
-    // Kept: `make` of the source itself promises more, so it has the body, and this one hands on to it.
+    // Kept: the source's own promises what the memory holds afterwards, which this one cannot: memory lent for the trait's lifetime has no value
+    // after the call. So this one hands on.
     fn make(memory: &'a mut [u16], rows: usize, cols: usize) -> TableSource<'a> {
         TableSource::make(memory, rows, cols)
     }

@@ -4,9 +4,9 @@ ghost use Rattle.floor.specs.Plane.{point};
 ghost use Rattle.table.specs.Layout.{Placed, Defined, Remarked, needed, plan_of};
 ghost use Rattle.table.specs.Equations.{PutRight, seeds, seeds_of, all_seeds};
 
-use crate::reading::{DEAD, View};
+use crate::reading::View;
 use floor::{Cell, Heading, Side};
-use source::Size;
+use source::{DEAD, Size};
 
 // What putting a label right did to it.
 #[derive(Clone, Copy)]

@@ -6,13 +6,10 @@ ghost use Rattle.table.specs.Equations.{live};
 ghost use Rattle.source.specs.Within.{sized_plan};
 
 use floor::{Cell, Heading, Side};
-use source::{Ground, Size, label};
+use source::{DEAD, Ground, Size, label};
 
 // The ninth number of an open cell.
 const OPEN: u16 = 1;
-
-// The label of a dead jump of no steps; those of live jumps are less.
-pub const DEAD: u16 = 32768;
 
 // A table to be read.
 #[derive(Clone, Copy)]

@@ -6,11 +6,9 @@ ghost use Rattle.worked.specs.Table.{corridor};
 ghost use Rattle.worked.specs.Corridor.{fits};
 
 use floor::Cell;
-use source::{JumpSource, open_all};
+use source::{JumpSource, Size, open_all};
 
-const ROWS: usize = 3;
-
-const COLS: usize = 5;
+const SIZE: Size = Size { rows: 3, cols: 5 };
 
 const CELLS: [Cell; 15] = [
     Cell { row: 0, col: 0 },
@@ -39,8 +37,7 @@ fn draw<S: JumpSource>(source: &mut S) -> bool
     ensures stays { fits (S.JumpSource.meaning source.old) ≡ false → source.new ≡ source.old }
     ensures kept { S.JumpSource.lent source.old source.new }
 {
-    let size = source.size();
-    if size.rows != ROWS || size.cols != COLS {
+    if source.size() != SIZE {
         return false;
     }
     open_all(source, &CELLS);

@@ -52,7 +52,8 @@ impl<'a, T: Copy> Front<'a, T> {
     }
 }
 
-// Kept: no contract says that `write!` of a Display value does not fail, and a page with room is always written.
+// Kept: by `write!` to a page it was not proved: what then stands on the page is promised only where Ok is answered, and nothing says that a page with
+// room answers it; here a page with room is always written.
 impl Front<'_, u8> {
     ghost use Rattle.writing.specs.Fronts.{Fits, Added};
 

@@ -1,6 +1,6 @@
 -- The source means what it was drawn to, and a plan of the corridor's size drawn so is the corridor.
-use Rattle.std.proofs.Common.{◌≡◌, true, sym, ◌∙◌, arith}
-use Rattle.std.proofs.lemmas.Bool.{and_from, both_ways, eq-eqb, cond-true}
+use Rattle.std.proofs.Common.{◌≡◌, true, sym, ◌∙◌, rules}
+use Rattle.std.proofs.lemmas.Bool.{both_ways, cond-true}
 use Rattle.floor.specs.Plans.{Plan}
 use Rattle.worked.specs.Examples.{drawn}
 use Rattle.worked.specs.Table.{corridor}
@@ -12,7 +12,7 @@ pub returns : goal.returns
 returns g c =
     let p : Plan = g.S.JumpSource.meaning c.args.source.now in
     let q : Plan = g.S.JumpSource.meaning c.open_all.new.source in
-    let fit : fits p ≡ true = and_from _ _ (eq-eqb p.rows 3 (omega (arith, c.size-size.ensures.0))) (eq-eqb p.cols 5 (omega (arith, c.size-size.ensures.1))) in
+    let fit : fits p ≡ true = search rules in
     let within = opened_inside p q fit c.open_all.ensures.plan in
     let there = redrawn_is p q (g.S.JumpSource.meaning c.mark.new.self) fit c.open_all.ensures.plan (c.mark.ensures.within within) (g.S.JumpSource.sized c.mark.new.self) in
     record {
