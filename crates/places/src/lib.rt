@@ -22,6 +22,18 @@ impl Place {
     {
         (8 * (self.cell.row * cols + self.cell.col) + usize::from(self.heading)) as u32
     }
+
+    // The place of a number.
+    pub fn numbered(number: u32, cols: usize) -> Place
+        requires { 0 < cols }
+        ensures cell { result.cell ≡ cell_of cols number }
+        ensures heading { result.heading ≡ heading_of number }
+    {
+        Place {
+            cell: cell_of(number, cols),
+            heading: heading_of(number),
+        }
+    }
 }
 
 // The cell of the place of a number, on a plan of so many columns.
