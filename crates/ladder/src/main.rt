@@ -7,7 +7,7 @@ ghost use Rattle.ladder.specs.Rungs.{rungs, ladder_sound};
 use floor::Counts;
 use rates::counter::CounterRate;
 use search::entry::Entry;
-use search::graph::{Edge, Graph, Position};
+use search::graph::{Edge, Graph, Position, TURNS};
 use search::{Work, search};
 use std::io;
 
@@ -31,28 +31,31 @@ impl Graph for Ladder {
         RUNGS as usize
     }
 
-    fn edge(&self, from: Position, turn: u8) -> Option<Edge> {
+    fn edges(&self, from: Position) -> [Option<Edge>; TURNS] {
         let next = match from {
             Position::Start => 0,
             Position::Place(rung) => rung + 1,
         };
-        match turn {
-            0 if next < RUNGS => Some(Edge {
+        let mut edges = [None; TURNS];
+        if next < RUNGS {
+            edges[0] = Some(Edge {
                 to: next,
                 counts: Counts {
                     straight: 1,
                     diagonal: 0,
                 },
-            }),
-            1 if 1 < RUNGS - next => Some(Edge {
+            });
+        }
+        if 1 < RUNGS - next {
+            edges[1] = Some(Edge {
                 to: next + 1,
                 counts: Counts {
                     straight: 0,
                     diagonal: 1,
                 },
-            }),
-            _ => None,
+            });
         }
+        edges
     }
 
     fn is_goal(&self, place: u32) -> bool {

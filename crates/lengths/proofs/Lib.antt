@@ -7,3 +7,4 @@ pub mod Bending
 pub mod Trails
 pub mod Writing
 pub mod Drawings
+pub mod Going

@@ -3,3 +3,4 @@ pub mod Answers
 pub mod Lists
 pub mod Searched
 pub mod Trail
+pub mod Going

@@ -1,18 +1,21 @@
 // The graph that a length is searched in: the leaps on the floor of a source, from a start and towards a target.
-ghost use Rattle.std.specs.Prelude.{◌≡◌, ℕ, ◌<◌};
+ghost use Rattle.std.specs.Prelude.{◌≡◌};
 ghost use Rattle.std.specs.Option.{option_map};
 ghost use Rattle.floor.specs.Plane.{point};
-ghost use Rattle.floor.specs.Places.{place as place_at, goes_on, successor as next_of};
-ghost use Rattle.places.specs.Leaps.{leap, leap_in, out, goal};
+ghost use Rattle.floor.specs.Places.{successor as next_of};
+ghost use Rattle.search.specs.Chain.{Edges};
+ghost use Rattle.places.specs.Leaps.{leap, out, goal};
 ghost use Rattle.places.proofs.Sound.{sound};
+ghost use Rattle.lengths.specs.Going.{leap_if, leaps};
 ghost use Rattle.lengths.specs.Questions.{places as places_of};
 
 use crate::asking::places;
 use floor::{Cell, Heading};
-use places::{Place, cell_of, heading_of};
-use pruning::{goings_from_place, successor};
-use search::graph::{Edge, Graph, Position};
+use places::{Place, cell_of};
+use pruning::{goings_from_place, goings_from_start, successor};
+use search::graph::{Edge, Graph, Position, TURNS};
 use source::JumpSource;
+use std::array;
 
 #[derive(Drop)]
 pub struct Leaps<'a, S> {
@@ -22,7 +25,7 @@ pub struct Leaps<'a, S> {
 }
 
 // The edge of the leap from a cell in a heading towards a target, if there is one.
-// Kept: no method of `Leaps`, which it would keep in memory: searches on bytes and on words take 0.2 % more instructions so.
+// Kept: no method of `Leaps`, which it would keep in memory: searches take 0.2 to 1.1 % more instructions so.
 fn leap_from<S: JumpSource>(source: &S, cell: Cell, heading: Heading, target: Cell) -> Option<Edge>
     ensures { result ≡ option_map (leap (S.JumpSource.meaning source.now).cols (point cell) heading) (next_of (S.JumpSource.meaning source.now) (point target) (point cell) heading) }
 {
@@ -37,27 +40,34 @@ fn leap_from<S: JumpSource>(source: &S, cell: Cell, heading: Heading, target: Ce
     })
 }
 
-impl<'a, S: JumpSource> Leaps<'a, S> {
-    // Whether a place goes on in a heading.
-    fn goes_on(&self, cell: Cell, arrival: Heading, heading: Heading) -> bool
-        ensures { result ≡ goes_on (S.JumpSource.meaning self.now.source.now) (place_at (point cell) arrival) heading }
-    {
-        goings_from_place(self.source, cell, arrival)[usize::from(heading)]
+// The edge of the leap from a cell in the heading of a number, if that heading is taken.
+fn leap_if<S: JumpSource>(
+    source: &S,
+    cell: Cell,
+    taken: bool,
+    number: u8,
+    target: Cell,
+) -> Option<Edge>
+    ensures { result ≡ leap_if (S.JumpSource.meaning source.now) (point cell) target taken number }
+{
+    let heading = Heading::try_from(number).ok()?;
+    if taken {
+        leap_from(source, cell, heading, target)
+    } else {
+        None
     }
+}
 
-    // The edge of the leap from a place in a heading, if it goes on so.
-    // Kept: cell and heading apart: as a Place, rows and columns are no longer known to be small, and searches take 0.1 to 0.4 % more instructions.
-    fn from_place(&self, number: u32, heading: Heading) -> Option<Edge>
-        requires { 0 < (S.JumpSource.meaning self.now.source.now).cols }
-        ensures { result ≡ leap_in (S.JumpSource.meaning self.now.source.now) self.now.start self.now.target (Position.Place number) heading }
-    {
-        let cell = cell_of(number, self.source.size().cols);
-        if self.goes_on(cell, heading_of(number), heading) {
-            leap_from(self.source, cell, heading, self.target)
-        } else {
-            None
-        }
-    }
+// The edges of the leaps from a cell in the headings that are taken, in the order of their numbers.
+fn leaps_from<S: JumpSource>(
+    source: &S,
+    cell: Cell,
+    taken: [bool; TURNS],
+    target: Cell,
+) -> [Option<Edge>; TURNS]
+    ensures { Edges (leaps (S.JumpSource.meaning source.now) (point cell) target taken) result }
+{
+    array::from_fn(|number| leap_if(source, cell, taken[number], number as u8, target))
 }
 
 impl<'a, S: JumpSource> Graph for Leaps<'a, S> {
@@ -73,11 +83,16 @@ impl<'a, S: JumpSource> Graph for Leaps<'a, S> {
         places(self.source)
     }
 
-    fn edge(&self, from: Position, turn: u8) -> Option<Edge> {
-        let heading = Heading::try_from(turn).ok()?;
+    fn edges(&self, from: Position) -> [Option<Edge>; TURNS] {
         match from {
-            Position::Start => leap_from(self.source, self.start, heading, self.target),
-            Position::Place(number) => self.from_place(number, heading),
+            Position::Start => {
+                leaps_from(self.source, self.start, goings_from_start(), self.target)
+            }
+            Position::Place(number) => {
+                let place = Place::numbered(number, self.source.size().cols);
+                let taken = goings_from_place(self.source, place.cell, place.heading);
+                leaps_from(self.source, place.cell, taken, self.target)
+            }
         }
     }
 

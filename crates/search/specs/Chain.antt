@@ -1,5 +1,5 @@
 -- Chains of edges, and what is asked of a graph.
-use Rattle.std.specs.Prelude.{◌≡◌, ℕ, ◌*◌, ◌^◌, ◌<◌, ◌≤◌, Bool, true, Some, Option}
+use Rattle.std.specs.Prelude.{◌≡◌, ℕ, ◌*◌, ◌^◌, ◌<◌, ◌≤◌, Bool, true, List, Some, None, Option, slice_index_or}
 use Rattle.floor.specs.declared.Counts.{Counts}
 use Rattle.floor.specs.Tally.{none, plus, steps}
 use Rattle.rate.specs.declared.Comparison.{Comparison}
@@ -16,6 +16,10 @@ most = 32768
 abbrev pub Inside : ℕ → Position → Type 0
 Inside n Start = Unit {0}
 Inside n (Place k) = k < n
+
+-- the edges of all turns out of one position, in the order of the turns
+abbrev pub Edges : (ℕ → Option Edge) → List (Option Edge) → Type 0
+Edges out es = (t : ℕ) → t < 8 → slice_index_or es t None ≡ out t
 
 -- a chain of edges from the start to a position, with its counts
 pub data Chain (out : Position → ℕ → Option Edge) : Position → Counts → Type 0 where
