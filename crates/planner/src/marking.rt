@@ -37,6 +37,7 @@ fn close_all<S: JumpSource>(source: &mut S)
     }
 }
 
+// Kept, here and in the crates above: that the rate and the memory stay is one equation, or one word of the source's trait; a definition would only rename it: no plainer.
 impl<S: JumpSource, R: Rate> Planner<S, R> {
     // A fresh planner: no cell is open, whatever the source held.
     pub fn new(mut source: S, rate: R) -> Planner<S, R>

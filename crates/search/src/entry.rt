@@ -23,7 +23,7 @@ pub struct Reached {
 }
 
 // Small, since each search clears one for each place.
-// Kept: with a Position for where it was reached from, or the slot in State::Waiting, it has 20 bytes, and clearing takes a quarter longer.
+// Kept: with a Position for where it was reached from, or the slot in State::Waiting, it has 20 bytes, and the instructions that clear entries grow by a quarter.
 #[derive(Clone, Copy)]
 pub struct Entry {
     straight: u16,

@@ -125,7 +125,7 @@ impl<'a, 'b, R: Rate> Frontier<'a, 'b, R> {
         self.places.raise(slot as usize, order);
     }
 
-    // Finishes the first of the places that wait, if any does.
+    // Finishes the first of the places that wait, if any does. Inlined, since as a call of its own it makes searches take 0.1 to 0.4 % more instructions.
     #[inline(always)]
     pub(crate) fn finish_first(&mut self) -> Option<u32>
         requires queued { Queued R.Rate.order self.old }
@@ -216,6 +216,7 @@ impl<'a, 'b, R: Rate> Frontier<'a, 'b, R> {
         ensures answered { Answered (G.Graph.out graph.now) (R.Rate.order self.old.rate.now) (G.Graph.goal graph.now) self.new.entries.now result }
         ensures same { SameFrontier self.old self.new }
     {
+        // Kept: the places finished are counted by hand, since their count is a part of the answer.
         let mut finished = 0;
         let mut from = Position::Start;
         let mut base = Reached {
