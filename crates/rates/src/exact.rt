@@ -29,12 +29,13 @@ fn balance_of(straight: i64, diagonal: i64) -> Comparison
 {
     let straight_square = square(straight);
     let diagonal_square = 2 * square(diagonal);
-    match (straight < 0, diagonal < 0) {
-        (false, false) => Comparison::of(straight_square + diagonal_square, 0),
-        (false, true) => Comparison::of(straight_square, diagonal_square),
-        (true, false) => Comparison::of(diagonal_square, straight_square),
-        (true, true) => Comparison::of(0, straight_square + diagonal_square),
-    }
+    let (more, less) = match (straight < 0, diagonal < 0) {
+        (false, false) => (straight_square + diagonal_square, 0),
+        (false, true) => (straight_square, diagonal_square),
+        (true, false) => (diagonal_square, straight_square),
+        (true, true) => (0, straight_square + diagonal_square),
+    };
+    Comparison::of(more, less)
 }
 
 impl Rate for ExactRate {
