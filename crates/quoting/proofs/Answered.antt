@@ -25,13 +25,11 @@ use Rattle.listing.specs.Millimetres.{refusal}
 use Rattle.listing.specs.Lines.{or_later, first_refused, listing_refusal}
 use Rattle.listing.proofs.Listings.{legs_asked}
 
--- the same loop on the same plan, under the same rate and with as much room
-pub same_tour : (order other : Counts → Counts → Comparison) (p q : Plan) (cells : List Cell) (w v w' v' : ℕ) (before after : List Counts) (r : Result Counts LoopRefusal) →
-    order ≡ other → p ≡ q → w ≡ w' → v ≡ v' → Toured order legal p cells w v before after r → Toured other legal q cells w' v' before after r
-same_tour order other p q cells w v w' v' before after r e f g h t =
-    subst (λ (y : ℕ). Toured other legal q cells w' y before after r) h
-    (subst (λ (x : ℕ). Toured other legal q cells x v before after r) g
-    (subst (λ (x : Plan). Toured other legal x cells w v before after r) f (subst (λ (o : Counts → Counts → Comparison). Toured o legal p cells w v before after r) e t)))
+-- the same loop on the same plan, under the same rate
+pub same_tour : (order other : Counts → Counts → Comparison) (p q : Plan) (cells : List Cell) (w v : ℕ) (before after : List Counts) (r : Result Counts LoopRefusal) →
+    order ≡ other → p ≡ q → Toured order legal p cells w v before after r → Toured other legal q cells w v before after r
+same_tour order other p q cells w v before after r e f t =
+    subst (λ (x : Plan). Toured other legal x cells w v before after r) f (subst (λ (o : Counts → Counts → Comparison). Toured o legal p cells w v before after r) e t)
 
 -- a loop that is answered found room for its legs
 pub legs_fit : (p : Plan) (cells : List Cell) (w v : ℕ) (before after : List Counts) (r : Result Counts LoopRefusal) → Toured exact legal p cells w v before after r → IfOk r (λ _. length cells ≤ length before)

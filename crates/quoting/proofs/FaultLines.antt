@@ -1,9 +1,8 @@
 -- The line of a refusal, in the pieces in which it is written.
 use Rattle.std.proofs.Common.{◌≡◌, ℕ, List, [], ◌∷◌, ◌++◌, codes, decimal, append_assoc}
 use Rattle.writing.specs.Values.{value, last_values}
-use Rattle.report.specs.declared.Fault.{Fault}
-use Rattle.report.specs.Texts.{origin_name}
-use Rattle.quoting.specs.Faults.{fault_line}
+use Rattle.quoting.specs.declared.faults.Fault.{Fault}
+use Rattle.quoting.specs.Faults.{origin_name, fault_line}
 
 -- the names of the columns, and their line feed
 abbrev pub names : List ℕ

@@ -1,13 +1,33 @@
 -- A refusal as it is printed: a line of names, and one line of values.
-use Rattle.std.specs.Prelude.{ℕ, List}
+use Rattle.std.specs.Prelude.{ℕ, List, [], ◌∷◌, ◌++◌, codes, decimal}
+use Rattle.sheet.specs.declared.refusals.Figures.{Figures}
 use Rattle.sheet.specs.Refusals.{figures_of}
 use Rattle.planner.specs.Loops.{loop_number, loop_leg}
 use Rattle.listing.specs.Lines.{listing_number, listing_leg}
-use Rattle.report.specs.declared.Fault.{Fault}
-use Rattle.report.specs.declared.Origin.TheVariants as origin
-use Rattle.report.specs.Texts.{ended, sheet_fault, call_fault, fault_text}
+use Rattle.quoting.specs.declared.faults.Fault.{Fault}
+use Rattle.quoting.specs.declared.faults.Origin.{Origin}
+use Rattle.quoting.specs.declared.faults.Origin.TheVariants as origin
 use Rattle.quoting.specs.declared.faults.Refusal.{Refusal}
 use Rattle.quoting.specs.declared.faults.Refusal.TheVariants as refusal
+
+-- the word for who refuses
+abbrev pub origin_name : Origin → List ℕ
+origin_name origin.Sheet = codes "sheet"
+origin_name origin.Planner = codes "planner"
+origin_name origin.Listing = codes "listing"
+
+-- a sheet's refusal has no leg
+abbrev pub sheet_fault : Figures → Fault
+sheet_fault f = record { number = f.number; from = origin.Sheet; line = f.line; field = f.field; leg = 0 }
+
+-- a refusal that lies in no sheet has no line and no field
+abbrev pub call_fault : Origin → ℕ → ℕ → Fault
+call_fault from number leg = record { number = number; from = from; line = 0; field = 0; leg = leg }
+
+-- a refusal: the names, and one line of values
+abbrev pub fault_text : Fault → List ℕ
+fault_text f =
+    codes "number from line field leg" ++ (10 ∷ (decimal f.number ++ (codes " " ++ (origin_name f.from ++ (codes " " ++ (decimal f.line ++ (codes " " ++ (decimal f.field ++ (codes " " ++ decimal f.leg)))))))))
 
 -- A refusal's figures, 0 where one does not apply: only a sheet's lies in a line and a field, only the others' in a leg.
 abbrev pub fault_of : Refusal → Fault
@@ -17,7 +37,7 @@ fault_of (refusal.Listing e) = call_fault origin.Listing (listing_number e) (lis
 
 -- the names, and the values in their order, each in a line
 unfoldable pub fault_line : Fault → List ℕ
-fault_line f = ended (fault_text f)
+fault_line f = fault_text f ++ 10 ∷ []
 
 abbrev pub refusal_text : Refusal → List ℕ
 refusal_text e = fault_line (fault_of e)

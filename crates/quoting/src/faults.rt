@@ -1,16 +1,104 @@
 // Why a sheet is not quoted: a line of values, whose text is fixed, and a sentence.
-ghost use Rattle.std.specs.Prelude.{◌≡◌};
+ghost use Rattle.std.specs.Prelude.{◌≡◌, Some};
 ghost use Rattle.writing.specs.Fronts.{Wrote, Fits, Added};
-ghost use Rattle.quoting.specs.Faults.{fault_of, fault_line, refusal_text};
+ghost use Rattle.sheet.specs.Refusals.{figures_of};
+ghost use Rattle.quoting.specs.Faults.{origin_name, sheet_fault, call_fault, fault_text, fault_of, fault_line, refusal_text};
 
 use crate::quotes::PAGE;
 use lengths::Refusal as CallRefusal;
 use listing::lines::ListingRefusal;
 use planner::LoopRefusal;
-use report::{Fault, Origin, call_fault};
 use std::fmt;
 use std::fmt::Display;
 use writing::Page;
+
+// Who refuses.
+#[derive(Clone, Copy, PartialEq, Eq, Debug)]
+pub enum Origin {
+    Sheet,
+    Planner,
+    Listing,
+}
+
+// A refusal as it is printed.
+// Kept: it is a rule of the printed form that 0 stands where a value does not apply.
+#[derive(Clone, Copy, PartialEq, Eq, Debug)]
+pub struct Fault {
+    pub number: usize,
+    pub from: Origin,
+    pub line: usize,
+    pub field: usize,
+    pub leg: usize,
+}
+
+impl Origin {
+    // The word for it.
+    pub fn name(self) -> &'static str
+        ensures { result.now ≡ origin_name self }
+    {
+        match self {
+            Origin::Sheet => "sheet",
+            Origin::Planner => "planner",
+            Origin::Listing => "listing",
+        }
+    }
+}
+
+impl Display for Origin {
+    ghost output = { λ o. Some (origin_name o) };
+
+    fn fmt<W: fmt::Write>(&self, f: &mut fmt::Formatter<W>) -> fmt::Result {
+        f.write_str(self.name())
+    }
+}
+
+impl Display for Fault {
+    ghost output = { λ x. Some (fault_text x) };
+
+    fn fmt<W: fmt::Write>(&self, f: &mut fmt::Formatter<W>) -> fmt::Result {
+        let Fault {
+            number,
+            from,
+            line,
+            field,
+            leg,
+        } = *self;
+        write!(
+            f,
+            "number from line field leg\n{number} {from} {line} {field} {leg}"
+        )
+    }
+}
+
+// A sheet's refusal as it is printed.
+impl From<&sheet::Refusal> for Fault {
+    ghost from_gives = { λ refusal fault. fault ≡ sheet_fault (figures_of refusal.now) };
+
+    fn from(refusal: &sheet::Refusal) -> Fault {
+        let figures = refusal.in_figures();
+        Fault {
+            number: figures.number,
+            from: Origin::Sheet,
+            line: figures.line,
+            field: figures.field,
+            leg: 0,
+        }
+    }
+}
+
+// A refusal that lies in no sheet, as it is printed, with the leg of a loop from 1, or 0 where there is none.
+// Kept: a From would need a refusal to convert from, and here are who refuses and two numbers.
+pub fn call_fault(from: Origin, number: usize, leg: usize) -> Fault
+    ensures { result ≡ call_fault from number leg }
+{
+    Fault {
+        number,
+        from,
+        line: 0,
+        field: 0,
+        leg,
+    }
+}
 
 // The first of the three that refuses: the reader of the sheet, the planner, or the listing.
 #[derive(Clone, Copy)]

@@ -2,9 +2,8 @@
 #![tactic(auto)]
 
 mod faults;
-pub mod lists;
 mod loops;
 mod quotes;
 
-pub use faults::Refusal;
+pub use faults::{Fault, Origin, Refusal, call_fault};
 pub use quotes::{MOST_READ, Outcome, PAGE, quote};

@@ -7,14 +7,23 @@ ghost use Rattle.rate.specs.Exact.{exact};
 ghost use Rattle.sheet.specs.Accepted.{Accepted};
 ghost use Rattle.quoting.specs.Floors.{cells_of, floor_of};
 
-use crate::lists::{Lists, SIDE, WORDS};
 use floor::{Cell, Counts};
 use packed::PackedSource;
-use planner::{LoopRefusal, Planner};
+use planner::{Entry as Place, LoopRefusal, Planner, Work};
 use rate::Rate;
 use rates::exact::ExactRate;
 use sheet::Entry;
 use source::JumpSource;
+
+// Rows, and columns, of the floor that a sheet speaks of.
+const SIDE: usize = 16;
+
+// A word for each row, and one for each column.
+const WORDS: usize = 32;
+
+// Eight places for each cell.
+// Kept: lists of that length are made here, beside the crate `lists`, whose lists are made on the heap. A quote allocates nothing, a rule of the project, and its floor has one size.
+const PLACES: usize = 2048;
 
 // Opens the cells that the entries name.
 fn open_cells<S: JumpSource, R: Rate>(planner: &mut Planner<S, R>, entries: &[Entry])
@@ -38,8 +47,13 @@ fn tour_on<S: JumpSource, R: Rate>(
 {
     let mut planner = Planner::new(source, rate);
     open_cells(&mut planner, entries);
-    let mut lists = Lists::BLANK;
-    planner.tour(stops, &mut lists.work(), legs)
+    let mut places = [Place::BLANK; PLACES];
+    let mut waiting = [0u32; PLACES];
+    let mut work = Work {
+        entries: &mut places,
+        waiting: &mut waiting,
+    };
+    planner.tour(stops, &mut work, legs)
 }
 
 // The loop through these stops on the floor of an accepted sheet, under the exact rate.

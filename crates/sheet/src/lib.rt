@@ -1,7 +1,7 @@
 // A sheet of marked cells: what it means, and the run that it asks for.
 #![tactic(auto)]
 
-ghost use Rattle.std.specs.Prelude.{◌≡◌, ◌+◌, ◌≤◌, ◌++◌, length, take, IfOk, OnOk};
+ghost use Rattle.std.specs.Prelude.{◌≡◌, ◌+◌, ◌≤◌, length, take, IfOk};
 ghost use Rattle.writing.specs.Fronts.{Fits, Added};
 ghost use Rattle.sheet.specs.Format.{pieces, lines};
 ghost use Rattle.sheet.specs.Meaning.{named, has_panel, admitted, added, read_lines, reading_of, answered, over};
@@ -16,7 +16,6 @@ mod text;
 use columns::{Names, entry_of, names_of};
 use floor::Cell;
 pub use refusals::{Figures, Refusal};
-use std::alloc::{AllocError, Global};
 use text::without_end;
 use writing::Front;
 
@@ -128,26 +127,7 @@ pub fn read(sheet: &[u8], entries: &mut [Entry]) -> Result<usize, Refusal>
     read_lines(without_end(sheet), entries)
 }
 
-// Adds the cells of the entries that have a mark, in their order.
-fn add_marked(cells: &mut Vec<Cell>, entries: &[Entry], mark: Mark) -> Result<(), AllocError>
-    ensures { OnOk result (cells.new.items ≡ cells.old.items ++ cells_marked mark entries.now) }
-{
-    let marked = entries.iter().filter(|entry| entry.mark == mark);
-    cells.extend(marked.map(|entry| entry.cell))
-}
-
-// The run that the entries ask for: the panel, and then the devices in line order.
-pub fn run(heap: Global, entries: &[Entry]) -> Result<Vec<Cell>, AllocError>
-    ensures { IfOk result (λ v. v.items ≡ run_of entries.now) }
-{
-    let mut cells = Vec::new(heap);
-    add_marked(&mut cells, entries, Mark::Panel)?;
-    add_marked(&mut cells, entries, Mark::Device)?;
-    Ok(cells)
-}
-
 // Writes the cells of the entries that have a mark, in their order.
-// Kept beside add_marked: here memory is lent and fixed, and there a list grows and may find no memory; one for both would be no plainer.
 fn put_marked(cells: &mut Front<'_, Cell>, entries: &[Entry], mark: Mark)
     requires { Fits cells.old (cells_marked mark entries.now) }
     ensures { Added cells.old (cells_marked mark entries.now) cells.new }

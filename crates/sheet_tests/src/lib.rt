@@ -14,13 +14,13 @@ pub const BEFORE: Entry = Entry {
 #[cfg(test)]
 mod tests {
     use super::*;
-    use quoting::{PAGE, quote};
-    use report::Fault;
-    use sheet::Figures;
+    use quoting::{Fault, PAGE, quote};
+    use sheet::{Figures, MAX_ENTRIES};
     use std::alloc::{AllocError, Global};
     use std::fmt::Write;
     use std::process::Abort;
     use std::test::Fail;
+    use writing::Front;
 
     // Empty, too few, spaces at the ends and doubled, a name twice, another name, a carriage return.
     const WRONG_NAMES: [&[u8]; 9] = [
@@ -190,18 +190,23 @@ mod tests {
         Ok(())
     }
 
+    fn cell(row: usize, col: usize) -> Cell {
+        Cell { row, col }
+    }
+
+    // The panel comes first, and then the devices in line order.
     #[test]
-    fn texts(rt: HostRuntime) -> Result<(), Fail> {
+    fn stops(rt: HostRuntime) -> Result<(), Fail> {
         let mut entries = [BEFORE; 256];
         let Ok(n) = sheet::read(b"row col mark\n0 2 D\n1 2 .\n0 0 P\n2 2 D\n", &mut entries) else {
             return Err(Fail::new("the sheet was refused"));
         };
-        let stops = sheet::run(rt.alloc(), &entries[0..n])?;
-        let text = report::listing(rt.alloc(), stops.as_slice(), n)?;
-        assert_eq!(rt;
-            text.as_str(),
-            "kind row col\npanel 0 0\ndevice 0 2\ndevice 2 2\nopen\n4\n"
-        );
+        assert_eq!(rt; n, 4);
+        let mut cells = [BEFORE.cell; MAX_ENTRIES];
+        let mut stops = Front::new(&mut cells);
+        sheet::put_run(&mut stops, &entries[0..n]);
+        let run = [cell(0, 0), cell(0, 2), cell(2, 2)];
+        assert_eq!(rt; stops.written(), run.as_slice());
         Ok(())
     }
 

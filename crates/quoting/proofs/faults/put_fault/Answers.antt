@@ -4,9 +4,8 @@ use Rattle.writing.specs.declared.Front.{Front}
 use Rattle.writing.specs.Fronts.{Fits, Added}
 use Rattle.writing.specs.Values.{last_values}
 use Rattle.writing.proofs.Fronts.{Left, all_left, first_fits, others_left, left_as}
-use Rattle.report.specs.declared.Fault.{Fault}
-use Rattle.report.specs.Texts.{origin_name}
-use Rattle.quoting.specs.Faults.{fault_line}
+use Rattle.quoting.specs.declared.faults.Fault.{Fault}
+use Rattle.quoting.specs.Faults.{origin_name, fault_line}
 use Rattle.quoting.proofs.FaultLines.{names, in_pieces}
 use Rattle.quoting.proofs.faults.put_fault.Goals as goal
 

@@ -5,11 +5,10 @@ use Rattle.std.proofs.lemmas.List.{length-append}
 use Rattle.writing.specs.Fronts.{Added}
 use Rattle.writing.proofs.Fronts.{all_written}
 use Rattle.writing.proofs.Lengths.{length_any_decimal, length_any_values}
-use Rattle.report.specs.declared.Fault.{Fault}
-use Rattle.report.specs.declared.Origin.{Origin}
-use Rattle.report.specs.declared.Origin.TheVariants as origin
-use Rattle.report.specs.Texts.{origin_name}
-use Rattle.quoting.specs.Faults.{fault_line}
+use Rattle.quoting.specs.declared.faults.Fault.{Fault}
+use Rattle.quoting.specs.declared.faults.Origin.{Origin}
+use Rattle.quoting.specs.declared.faults.Origin.TheVariants as origin
+use Rattle.quoting.specs.Faults.{origin_name, fault_line}
 use Rattle.quoting.proofs.FaultLines.{in_pieces}
 use Rattle.quoting.proofs.faults.put_refusal.Goals as goal
 

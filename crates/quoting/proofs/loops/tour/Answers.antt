@@ -11,5 +11,5 @@ pub returns : goal.returns
 returns c =
     let es = c.args.entries.now in
     let new = c.make-source.ensures.plan in
-    let told = same_tour _ _ _ _ _ _ _ _ _ _ _ _ refl (ap (λ (p : Plan). opened (closed p.rows p.cols) (cells_of es)) new.plan ∙ floor_opened es c.requires) refl refl c.tour_on.ensures in
+    let told = same_tour _ _ _ _ _ _ _ _ _ _ refl (ap (λ (p : Plan). opened (closed p.rows p.cols) (cells_of es)) new.plan ∙ floor_opened es c.requires) c.tour_on.ensures in
     record { told = told; few = legs_fit _ _ _ _ _ _ _ told }

@@ -8,9 +8,7 @@ use Rattle.quoting.proofs.loops.tour_on.Goals as goal
 
 pub returns : goal.returns
 returns g c =
-    same_tour _ _ _ _ _ _ _ _ _ _ _ _
+    same_tour _ _ _ _ _ _ _ _ _ _
     (ap (λ rate. g.R.Rate.order rate.now) (c.open_cells.ensures.rate ∙ c.new-planner.ensures.rate))
     (c.open_cells.ensures.plan ∙ ap (λ (p : Plan). opened p (cells_of c.args.entries.now)) c.new-planner.ensures.plan)
-    c.work.ensures.entries
-    c.work.ensures.waiting
     c.tour.ensures.told
