@@ -42,6 +42,10 @@ module _ (n : ℕ) (out : Position → ℕ → Option Edge) (fits : (p : Positio
         omega arith
     bounded (Place k) r e = (i.made k r (inr e)).bound
 
+    -- The counts of the position whose edges are followed are few steps, and so are those of its next edge.
+    pub few_steps : (e : Edge) → out q turn ≡ Some e → (steps base.counts ≤ most) × (steps e.counts ≤ most)
+    few_steps e is = (bounded q base i.here, (fits q turn e is).few)
+
     pub done_chain : (p : Position) (r : Reached) → standing s p ≡ Done r → Chain out p r.counts
     done_chain Start r e = subst (λ (x : Reached). Chain out Start x.counts) (same_done _ _ r refl e) start
     done_chain (Place k) r e = i.chained k r (inr e)
@@ -283,6 +287,13 @@ module _ (n : ℕ) (out : Position → ℕ → Option Edge) (fits : (p : Positio
   pub seen_finished : (s : ℕ → Mark) (q : Position) (base : Reached) (turn : ℕ) (e : Edge) (r : Reached) → Search out order s q base turn → out q turn ≡ Some e → s e.to ≡ Done r
       → steps (plus base.counts e.counts) ≤ most → Search out order s q base (turn + 1)
   seen_finished s q base turn e r i is f low = seen_cheaper s q base turn e r i is (inr f) (chain _ _ _ (i.top e.to r f) (longer base.counts e.counts))
+
+  -- An edge that would lead too far need not be noted.
+  pub too_far : (s : ℕ → Mark) (q : Position) (base : Reached) (turn : ℕ) (e : Edge) → Search out order s q base turn → out q turn ≡ Some e → most < steps (plus base.counts e.counts) → Search out order s q base (turn + 1)
+  too_far s q base turn e i is far = onward s q base turn i (λ a is' low.
+      let ea : e ≡ a = (let h : Some e ≡ Some a = sym is ∙ is' in cc) in
+      let near : steps (plus base.counts e.counts) ≤ most = subst (λ (x : Edge). steps (plus base.counts x.counts) ≤ most) (sym ea) low in
+      absurd (let y : ⊥ = omega arith in y))
 
   -- The edge of this turn has been noted.
   pub follow : (s s' : ℕ → Mark) (q : Position) (base : Reached) (turn : ℕ) (e : Edge) → Search out order s q base turn → turn < 8 → out q turn ≡ Some e

@@ -8,7 +8,7 @@ ghost use Rattle.search.specs.Frontier.{Queued, Standing, Offered, SameFrontier}
 
 use crate::Found;
 use crate::entry::{Entry, Reached, State};
-use crate::graph::{Edge, Graph, MOST_STEPS, Position};
+use crate::graph::{Graph, MOST_STEPS, Position};
 use floor::Counts;
 use rate::{Comparison, Rate};
 use waiting::{Order, Waiting};
@@ -168,33 +168,7 @@ impl<'a, 'b, R: Rate> Frontier<'a, 'b, R> {
         }
     }
 
-    // Follows the edge of one turn out of a finished position, if there is one.
-    fn follow<G: Graph>(
-        &mut self,
-        graph: &G,
-        from: Position,
-        base: Reached,
-        turn: usize,
-        edge: Option<Edge>,
-    )
-        requires sized { length self.old.entries.now ≡ G.Graph.size graph.now }
-        requires turn { turn < 8 }
-        requires edge { edge ≡ G.Graph.out graph.now from turn }
-        requires standing { Standing R.Rate.order (G.Graph.out graph.now) self.old from base turn }
-        ensures standing { Standing R.Rate.order (G.Graph.out graph.now) self.new from base (turn + 1) }
-        ensures finished { finished self.new.entries.now ≡ finished self.old.entries.now }
-        ensures same { SameFrontier self.old self.new }
-    {
-        let Some(edge) = edge else {
-            return;
-        };
-        let counts = base.counts + edge.counts;
-        if counts.straight + counts.diagonal <= MOST_STEPS {
-            self.note(edge.to, Reached { counts, from });
-        }
-    }
-
-    // Follows the edges of all eight turns. Inlined, since as a call of its own, for each place finished, it makes searches take 1 to 4 % more instructions.
+    // Follows the edges of all eight turns. Inlined, since as a call of its own, for each place finished, it makes searches take 1 to 3 % more instructions.
     #[inline(always)]
     pub(crate) fn follow_all<G: Graph>(&mut self, graph: &G, from: Position, base: Reached)
         requires sized { length self.old.entries.now ≡ G.Graph.size graph.now }
@@ -203,8 +177,14 @@ impl<'a, 'b, R: Rate> Frontier<'a, 'b, R> {
         ensures finished { finished self.new.entries.now ≡ finished self.old.entries.now }
         ensures same { SameFrontier self.old self.new }
     {
-        for (turn, edge) in graph.edges(from).iter().enumerate() {
-            self.follow(graph, from, base, turn, *edge);
+        for edge in graph.edges(from).iter() {
+            let Some(edge) = edge else {
+                continue;
+            };
+            let counts = base.counts + edge.counts;
+            if counts.straight + counts.diagonal <= MOST_STEPS {
+                self.note(edge.to, Reached { counts, from });
+            }
         }
     }
 

@@ -39,8 +39,7 @@ pub trait Graph {
     fn places(&self) -> usize
         ensures { result ≡ size self.now };
 
-    // All edges out of a position together, in the order of the turns, so that what they share is worked out once.
-    // Kept: a turn is a count here and no kind; what it means is the graph's own.
+    // All edges out of a position together, in the order of the turns, so that what they share is worked out once. What a turn means is the graph's own.
     fn edges(&self, from: Position) -> [Option<Edge>; TURNS]
         requires { Inside (size self.now) from }
         ensures { Edges (out self.now from) result };
