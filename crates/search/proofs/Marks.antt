@@ -9,7 +9,7 @@ use Rattle.search.specs.declared.entry.State.TheVariants.{Unseen, Waiting, Finis
 use Rattle.search.specs.declared.entry.Reached.{Reached}
 use Rattle.search.specs.declared.entry.Entry.{Entry}
 use Rattle.search.specs.Chain.{Inside}
-use Rattle.search.specs.Mark.{Mark, Unmet, Waits, Done, way, marked, mark, blank, waiting_by, marks, slots, is_waiting, is_done, how, key, standing, Becomes, count, finished, finishes}
+use Rattle.search.specs.Mark.{Mark, Unmet, Waits, Done, way, marked, mark, blank, waiting_by, marks, slots, is_waiting, is_done, how, standing, Becomes, count, finished, finishes}
 
 pub same_done : (m : Mark) (r b : Reached) → m ≡ Done r → m ≡ Done b → r ≡ b
 same_done m r b p q = cc
@@ -47,10 +47,10 @@ how_waits Unseen r e = absurd (both_ways false refl e)
 how_waits Waiting r e = refl
 how_waits Finished r e = refl
 
-pub back_again : (r : Reached) (k : ℕ) → mark (waiting_by r k) ≡ Waits r
-back_again r k = ap Waits (by r.from)
+pub back_again : (r : Reached) → mark (waiting_by r) ≡ Waits r
+back_again r = ap Waits (by r.from)
   where
-    by : (p : Position) → way (waiting_by (record { counts = r.counts; from = p }) k) ≡ record { counts = r.counts; from = p }
+    by : (p : Position) → way (waiting_by (record { counts = r.counts; from = p })) ≡ record { counts = r.counts; from = p }
     by Start = refl
     by (Place j) = refl
 
@@ -76,15 +76,6 @@ module _ (es : List Entry) (k : ℕ) (e : Entry) (low : k < length es) where
   pub slots_off : (j : ℕ) → (j ≡ k → ⊥) → slots (set es k e) j ≡ slots es j
   unfolding slots
   slots_off j apart = ap (λ x. x.slot) (get_or-set_other es k j e blank apart)
-
-  pub slots_same : e.slot ≡ slots es k → slots (set es k e) ≡ slots es
-  slots_same h = λ i j. each j i
-    where
-      each : (j : ℕ) → slots (set es k e) j ≡ slots es j
-      each j = elim (cases_eq j k) [
-        | inl same ↦ ap (slots (set es k e)) same ∙ slot_here ∙ h ∙ ap (slots es) (sym same)
-        | inr apart ↦ slots_off j apart
-      ]
 
 -- what is done is a place of the list, or the start
 pub standing_inside : (es : List Entry) (q : Position) (b : Reached) → standing (marks es) q ≡ Done b → Inside (length es) q
@@ -161,11 +152,6 @@ finishes_next es₀ es es' p r same new w l a b = finishes_up es es' p r new w l
 pub finishes_none : (es : List Entry) → ((k : ℕ) → marks es k ≡ Unmet) → 0 ≡ finishes es
 unfolding finishes finished
 finishes_none es clean = count_none _ (length es) (λ k. ap is_done (clean k))
-
--- what a place waits by, as its entry says it
-pub key_is : (es : List Entry) (k : ℕ) → is_waiting (marks es k) ≡ true → (way (get_or es k blank)).counts ≡ key (marks es k)
-unfolding marks
-key_is es k w = ap (λ (r : Reached). r.counts) (sym (how_waits (get_or es k blank).state (way (get_or es k blank)) w))
 
 done_marked : (t : State) (w r : Reached) → marked t w ≡ Done r → w ≡ r
 done_marked Unseen w r e = absurd (not_done Unmet r refl e)

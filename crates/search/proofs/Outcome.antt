@@ -15,7 +15,7 @@ use Rattle.search.specs.Chain.{most, Chain, Sound}
 use Rattle.search.specs.declared.entry.Entry.{Entry}
 use Rattle.search.specs.Mark.{Mark, Waits, Done, how, way, blank, key, marks, is_done, is_waiting, finished, Becomes}
 use Rattle.search.specs.Search.{NoDearer, Search, Cheapest, NoWay}
-use Rattle.search.specs.Queue.{First}
+use Rattle.search.specs.Queue.{waiter_of, First}
 use Rattle.search.proofs.Marks as written
 use Rattle.search.proofs.Steps as walk
 use Rattle.search.proofs.Queues as queues
@@ -56,7 +56,7 @@ module _ (n : ℕ) (out : Position → ℕ → Option Edge) (goal : ℕ → Bool
       least : (j : ℕ) (b : Reached) → s j ≡ Waits b → NoDearer order (how (s p)).counts b.counts
       least j b w = elim (cases_eq j p) [
         | inl e ↦ subst (λ (r : Reached). NoDearer order (how (s p)).counts r.counts) (ap (λ x. how (s x)) (sym e) ∙ ap how w) (ap at_least ((facts order law).itself (key (s p))))
-        | inr ne ↦ subst (λ (r : Reached). NoDearer order (how (s p)).counts r.counts) (ap how w) (queues.turns_cheap order law s p j (f.first j (ap is_waiting w) ne))
+        | inr ne ↦ subst (λ (r : Reached). NoDearer order (how (s p)).counts r.counts) (ap how w) (queues.cheap order law (waiter_of s p) (waiter_of s j) (f.first j (ap is_waiting w) ne))
       ]
 
   module _ (s : ℕ → Mark) (p : ℕ) (r : Reached) (i : Search out order s (Place p) r 0) (hit : goal p ≡ true) (others : (k : ℕ) → (k ≡ p → ⊥) → is_done (s k) ≡ true → goal k ≡ false) where

@@ -9,7 +9,7 @@ use Rattle.search.specs.declared.graph.Edge.{Edge}
 use Rattle.search.specs.declared.entry.Reached.{Reached}
 use Rattle.search.specs.declared.frontier.Frontier.{Frontier}
 use Rattle.search.specs.Chain.{most}
-use Rattle.search.specs.Mark.{marks, slots}
+use Rattle.search.specs.Mark.{marks}
 use Rattle.search.specs.Search.{Search}
 use Rattle.search.specs.Queue.{Queue}
 
@@ -18,7 +18,7 @@ module _ {R : Type 0} (by : R → Counts → Counts → Comparison) where
   pub record Queued (f : Frontier R) : Type 0 where
     pub few : length f.entries.now ≤ 2 ^ 32
     pub roomy : length f.entries.now ≤ length f.places.now.slots.now
-    pub queue : Queue (by f.rate.now) (length f.entries.now) (marks f.entries.now) (slots f.entries.now) (held f.places.now)
+    pub queue : Queue (by f.rate.now) f.entries.now (held f.places.now)
 
   -- the search and its queue, as the edges of q from turn on are to be followed
   pub record Standing (out : Position → ℕ → Option Edge) (f : Frontier R) (q : Position) (base : Reached) (turn : ℕ) : Type 0 where

@@ -42,9 +42,9 @@ abbrev pub number_of : Position → ℕ
 number_of Start = 0
 number_of (Place k) = k
 
--- the entry of a place that waits
-abbrev pub waiting_by : Reached → ℕ → Entry
-waiting_by r k = record { straight = r.counts.straight; diagonal = r.counts.diagonal; from = number_of r.from; slot = k; state = Waiting; direct = is_start r.from }
+-- the entry of a place that waits, until the heap tells where it stands
+abbrev pub waiting_by : Reached → Entry
+waiting_by r = record { straight = r.counts.straight; diagonal = r.counts.diagonal; from = number_of r.from; slot = 0; state = Waiting; direct = is_start r.from }
 
 -- what the entries say, place by place
 unfoldable pub marks : List Entry → ℕ → Mark

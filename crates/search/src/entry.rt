@@ -48,10 +48,10 @@ impl Entry {
         direct: false,
     };
 
-    // Of a place that waits, reached so.
-    pub(crate) fn waiting(new: Reached, slot: u32) -> Entry
+    // Of a place that waits, reached so. Where it stands, the heap tells.
+    pub(crate) fn waiting(new: Reached) -> Entry
         requires { steps new.counts ≤ most }
-        ensures { result ≡ waiting_by new slot }
+        ensures { result ≡ waiting_by new }
     {
         let (from, direct) = match new.from {
             Position::Start => (0, true),
@@ -61,7 +61,7 @@ impl Entry {
             straight: new.counts.straight as u16,
             diagonal: new.counts.diagonal as u16,
             from,
-            slot,
+            slot: 0,
             state: State::Waiting,
             direct,
         }

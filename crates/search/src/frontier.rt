@@ -1,77 +1,48 @@
 // The places that a search has reached: the entries of all, and those that wait, in the order in which they are to be finished.
 ghost use Rattle.std.specs.Prelude.{◌≡◌, ℕ, ◌+◌, ◌<◌, true, false, MatchOption, length, ◌≢◌};
-ghost use Rattle.search.specs.Mark.{Unmet, Waits, Done, marks, slots, way, key, how, is_waiting, finished, Becomes};
+ghost use Rattle.search.specs.Mark.{Unmet, Waits, Done, marks, key, how, is_waiting, finished, Becomes};
 ghost use Rattle.search.specs.Search.{NoDearer, Noted};
-ghost use Rattle.search.specs.Queue.{sooner as before, turns, Waiter, Stands, Kept, places_lawful, First};
+ghost use Rattle.search.specs.Queue.{sooner, Known, Stands, Kept, waiters_lawful, First};
 ghost use Rattle.search.specs.Answer.{Answered};
 ghost use Rattle.search.specs.Frontier.{Queued, Standing, Offered, SameFrontier};
 
-use crate::Found;
 use crate::entry::{Entry, Reached, State};
 use crate::graph::{Graph, MOST_STEPS, Position};
+use crate::{Found, Waiter};
 use floor::Counts;
 use rate::{Comparison, Rate};
 use waiting::{Order, Waiting};
 
-// Where a place stands among those that wait: by its key, and at equal cost the lower number first.
-#[derive(Clone, Copy)]
-struct Rank {
-    key: Counts,
-    place: u32,
-}
-
-impl Rank {
-    // The key is the counts with which the place was reached.
-    fn of(entry: Entry, place: u32) -> Rank
-        ensures key { result.key ≡ (way entry).counts }
-        ensures place { result.place ≡ place }
-    {
-        Rank {
-            key: entry.reached().counts,
-            place,
-        }
-    }
-}
-
-// Whether the first goes before the second. It is here that the rate is asked.
-fn sooner<R: Rate>(rate: &R, first: Rank, second: Rank) -> bool
-    ensures { result ≡ before (R.Rate.order rate.now) first.key first.place second.key second.place }
-{
-    match rate.compare(first.key, second.key) {
-        Comparison::Cheaper => true,
-        Comparison::Same => first.place < second.place,
-        Comparison::Dearer => false,
-    }
-}
-
-// The order of the places that wait, and the index of where they stand, which their entries hold.
+// The order of the places that wait, at equal cost the lower number first, and the index of where they stand, which their entries hold.
 #[derive(Drop)]
 struct ByCost<'a, R> {
     entries: &'a mut [Entry],
     rate: &'a R,
 }
 
-impl<'a, R: Rate> Order<u32> for ByCost<'a, R> {
-    ghost before = { λ s. turns (R.Rate.order s.rate.now) (marks s.entries.now) };
+impl<'a, R: Rate> Order<Waiter> for ByCost<'a, R> {
+    ghost before = { λ s. sooner (R.Rate.order s.rate.now) };
 
-    ghost knows = { λ s. Waiter (length s.entries.now) (marks s.entries.now) };
+    ghost knows = { λ s. Known s.entries.now };
 
-    ghost stands = { λ s. Stands (length s.entries.now) (marks s.entries.now) (slots s.entries.now) };
+    ghost stands = { λ s. Stands s.entries.now };
 
-    ghost apart = { λ a b. a ≢ b };
+    ghost apart = { λ a b. a.place ≢ b.place };
 
-    ghost same = { Kept (λ o. R.Rate.order o.rate.now) (λ o. marks o.entries.now) (λ o. length o.entries.now) (λ o. o.entries.ghost_name) };
+    ghost same = { Kept (λ o. R.Rate.order o.rate.now) (λ o. o.entries.now) (λ o. o.entries.ghost_name) };
 
-    ghost lawful = { places_lawful (λ o. R.Rate.order o.rate.now) (λ o. R.Rate.lawful o.rate.now) (λ o. marks o.entries.now) (λ o. length o.entries.now) (λ o. o.entries.ghost_name) (λ o. slots o.entries.now) };
+    ghost lawful = { waiters_lawful (λ o. R.Rate.order o.rate.now) (λ o. R.Rate.lawful o.rate.now) (λ o. o.entries.now) (λ o. o.entries.ghost_name) };
 
-    fn goes_before(&self, a: &u32, b: &u32) -> bool {
-        let first = Rank::of(self.entries[*a as usize], *a);
-        let second = Rank::of(self.entries[*b as usize], *b);
-        sooner(self.rate, first, second)
+    fn goes_before(&self, a: &Waiter, b: &Waiter) -> bool {
+        match self.rate.compare(a.key(), b.key()) {
+            Comparison::Cheaper => true,
+            Comparison::Same => a.place < b.place,
+            Comparison::Dearer => false,
+        }
     }
 
-    fn placed(&mut self, item: &u32, slot: usize) {
-        self.entries[*item as usize].slot = slot as u32;
+    fn placed(&mut self, item: &Waiter, slot: usize) {
+        self.entries[item.place as usize].slot = slot as u32;
     }
 }
 
@@ -84,7 +55,7 @@ impl<'a, R: Rate> Order<u32> for ByCost<'a, R> {
 pub(crate) struct Frontier<'a, 'b, R> {
     pub(crate) entries: &'a mut [Entry],
     pub(crate) rate: &'a R,
-    pub(crate) places: &'a mut Waiting<'b, u32>,
+    pub(crate) places: &'a mut Waiting<'b, Waiter>,
 }
 
 impl<'a, 'b, R: Rate> Frontier<'a, 'b, R> {
@@ -97,12 +68,12 @@ impl<'a, 'b, R: Rate> Frontier<'a, 'b, R> {
         ensures new { Becomes (marks self.old.entries.now) (marks self.new.entries.now) place (Waits new) }
         ensures same { SameFrontier self.old self.new }
     {
-        self.entries[place as usize] = Entry::waiting(new, 0);
+        self.entries[place as usize] = Entry::waiting(new);
         let order = &mut ByCost {
             entries: &mut *self.entries,
             rate: self.rate,
         };
-        self.places.put(place, order);
+        self.places.put(Waiter::of(place, new.counts), order);
     }
 
     // Makes a place cheaper that waits. Seldom asked for, and not inlined, so that `note` stays short: searches take 0.1 to 0.3 % fewer instructions.
@@ -117,12 +88,13 @@ impl<'a, 'b, R: Rate> Frontier<'a, 'b, R> {
         ensures same { SameFrontier self.old self.new }
     {
         let slot = self.entries[place as usize].slot;
-        self.entries[place as usize] = Entry::waiting(new, slot);
+        self.entries[place as usize] = Entry::waiting(new);
         let order = &mut ByCost {
             entries: &mut *self.entries,
             rate: self.rate,
         };
-        self.places.raise(slot as usize, order);
+        self.places
+            .raise(slot as usize, Waiter::of(place, new.counts), order);
     }
 
     // Finishes the first of the places that wait, if any does. Inlined, since as a call of its own it makes searches take 0.1 to 0.4 % more instructions.
@@ -138,9 +110,9 @@ impl<'a, 'b, R: Rate> Frontier<'a, 'b, R> {
             entries: &mut *self.entries,
             rate: self.rate,
         };
-        let place = self.places.take_first(order)?;
-        self.entries[place as usize].state = State::Finished;
-        Some(place)
+        let first = self.places.take_first(order)?;
+        self.entries[first.place as usize].state = State::Finished;
+        Some(first.place)
     }
 
     // Notes that a place can be reached so.
@@ -155,12 +127,8 @@ impl<'a, 'b, R: Rate> Frontier<'a, 'b, R> {
         match entry.state {
             State::Unseen => self.add(place, new),
             State::Waiting => {
-                let was = Rank::of(entry, place);
-                let offered = Rank {
-                    key: new.counts,
-                    ..was
-                };
-                if sooner(self.rate, offered, was) {
+                let was = entry.reached().counts;
+                if self.rate.compare(new.counts, was) == Comparison::Cheaper {
                     self.improve(place, new);
                 }
             }

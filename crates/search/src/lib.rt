@@ -3,8 +3,11 @@
 #![tactic(auto)]
 
 ghost use Rattle.std.specs.Prelude.{◌≡◌, ℕ, ◌≤◌, true, length, take, drop};
+ghost use Rattle.floor.specs.Tally.{steps};
+ghost use Rattle.search.specs.Chain.{most};
 ghost use Rattle.search.specs.Mark.{Unmet, marks, key, finished};
 ghost use Rattle.search.specs.Search.{Traced, Back};
+ghost use Rattle.search.specs.Queue.{waiter, counts_of};
 ghost use Rattle.search.specs.Answer.{Answered};
 ghost use Rattle.search.specs.Work.{SameLists};
 
@@ -23,7 +26,46 @@ pub mod graph;
 #[derive(Drop)]
 pub struct Work<'a> {
     pub entries: &'a mut [Entry],
-    pub waiting: &'a mut [u32],
+    pub waiting: &'a mut [Waiter],
+}
+
+// A place that waits, with the counts that it waits by, in 8 bytes: the heap compares what stands in its own slots, and reads no entries.
+#[derive(Clone, Copy)]
+pub struct Waiter {
+    straight: u16,
+    diagonal: u16,
+    place: u32,
+}
+
+impl Waiter {
+    // Of no place in particular, to make lists of.
+    pub const BLANK: Waiter = Waiter {
+        straight: 0,
+        diagonal: 0,
+        place: 0,
+    };
+
+    // Of a place that was reached with these counts.
+    fn of(place: u32, counts: Counts) -> Waiter
+        requires { steps counts ≤ most }
+        ensures { result ≡ waiter place counts }
+    {
+        Waiter {
+            straight: counts.straight as u16,
+            diagonal: counts.diagonal as u16,
+            place,
+        }
+    }
+
+    // What it waits by.
+    fn key(&self) -> Counts
+        ensures { result ≡ counts_of self.now }
+    {
+        Counts {
+            straight: u32::from(self.straight),
+            diagonal: u32::from(self.diagonal),
+        }
+    }
 }
 
 // A goal that no other is cheaper to reach than, with the counts of a chain to it, and how many places were finished.
@@ -46,7 +88,7 @@ fn run<G: Graph, R: Rate>(
     graph: &G,
     rate: &R,
     entries: &mut [Entry],
-    waiting: &mut [u32],
+    waiting: &mut [Waiter],
 ) -> Option<Found>
     requires sized { length entries.old ≡ G.Graph.size graph.now }
     requires room { length entries.old ≤ length waiting.old }

@@ -1,5 +1,4 @@
 use Rattle.std.proofs.Common.{length, ap, arith}
-use Rattle.search.specs.Mark.{marks, slots}
 use Rattle.search.proofs.Queues as queues
 use Rattle.search.proofs.run.Goals as goal
 
@@ -12,5 +11,5 @@ reach_goal-requires-clause-queued g c =
     record {
       few = omega arith;
       roomy = omega arith;
-      queue = rw c.new.ensures.empty (queues.empty (g.R.Rate.order c.args.rate.now) (length es) (marks es) (slots es) c.clear.ensures);
+      queue = rw c.new.ensures.empty (queues.empty (g.R.Rate.order c.args.rate.now) es c.clear.ensures);
     }
