@@ -27,7 +27,7 @@ LINES = {
 
 TOGETHER = {
     "5a rows, cols": r"\brows: usize\b.*\bcols: usize\b",
-    "5b entries, waiting": r"\bentries: (&mut \[Entry\]|usize).*\bwaiting: (&mut \[u32\]|usize)",
+    "5b entries, waiting": r"\bentries: (&mut \[Entry\]|usize).*\bwaiting: (&mut \[(u32|Waiter)\]|usize)",
     "5c start, target": r"\bstart: Cell\b.*\btarget: Cell\b",
     "5d cell, heading": r"\b(cell|from|at): Cell\b.*\b(heading|towards|arrival|slant): (Heading|u8|usize)\b",
     "5e heap, size, rate, price, moments, tally": r"\bprice: Price\b",

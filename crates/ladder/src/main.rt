@@ -8,7 +8,7 @@ use floor::Counts;
 use rates::counter::CounterRate;
 use search::entry::Entry;
 use search::graph::{Edge, Graph, Position, TURNS};
-use search::{Work, search};
+use search::{Waiter, Work, search};
 use std::io;
 
 const RUNGS: u32 = 10;
@@ -65,7 +65,7 @@ impl Graph for Ladder {
 
 fn climb(rt: &HostRuntime, top: u32) -> io::Result<()> {
     let mut entries = [Entry::BLANK; 12];
-    let mut waiting = [0u32; 12];
+    let mut waiting = [Waiter::BLANK; 12];
     let mut work = Work {
         entries: &mut entries,
         waiting: &mut waiting,

@@ -5,8 +5,8 @@ ghost use Rattle.std.specs.Prelude.{◌≡◌, length, IfOk, vec_items};
 ghost use Rattle.lists.specs.Lengths.{room_of};
 
 use lengths::Room;
-use search::Work;
 use search::entry::Entry;
+use search::{Waiter, Work};
 use std::alloc::{AllocError, Global};
 
 #[cfg(test)]
@@ -16,7 +16,7 @@ mod tests;
 #[derive(Drop)]
 pub struct Lists {
     entries: Vec<Entry>,
-    waiting: Vec<u32>,
+    waiting: Vec<Waiter>,
 }
 
 impl Lists {
@@ -26,7 +26,7 @@ impl Lists {
     {
         Ok(Lists {
             entries: vec![in heap; Entry::BLANK; room.entries]?,
-            waiting: vec![in heap; 0u32; room.waiting]?,
+            waiting: vec![in heap; Waiter::BLANK; room.waiting]?,
         })
     }
 

@@ -10,6 +10,6 @@ mod touring;
 pub use answers::LoopRefusal;
 pub use marking::Planner;
 
-// The lists that a call works in, and what the first of them holds, so that an office needs to know no crate below this one.
-pub use search::Work;
+// The lists that a call works in, and what they hold, so that an office needs to know no crate below this one.
 pub use search::entry::Entry;
+pub use search::{Waiter, Work};

@@ -9,7 +9,7 @@ ghost use Rattle.quoting.specs.Floors.{cells_of, floor_of};
 
 use floor::{Cell, Counts};
 use packed::PackedSource;
-use planner::{Entry as Place, LoopRefusal, Planner, Work};
+use planner::{Entry as Place, LoopRefusal, Planner, Waiter, Work};
 use rate::Rate;
 use rates::exact::ExactRate;
 use sheet::Entry;
@@ -48,7 +48,7 @@ fn tour_on<S: JumpSource, R: Rate>(
     let mut planner = Planner::new(source, rate);
     open_cells(&mut planner, entries);
     let mut places = [Place::BLANK; PLACES];
-    let mut waiting = [0u32; PLACES];
+    let mut waiting = [Waiter::BLANK; PLACES];
     let mut work = Work {
         entries: &mut places,
         waiting: &mut waiting,
