@@ -1,2 +1,4 @@
 pub mod Cells
+pub mod Strides
+pub mod Walking
 pub mod Memory

@@ -5,9 +5,13 @@ use Rattle.floor.specs.Plans.{Plan, closed}
 use Rattle.source.specs.Sizes.{size_answer}
 use Rattle.source.specs.Drawing.{opened}
 
--- the plan that bytes mean: a cell inside is open where its byte is 0, and every other byte is closed
+-- a byte of 0 is an open cell, and every other byte a closed one
+abbrev pub free_at : List ℕ → ℕ → Bool
+free_at bytes i = slice_index bytes i == 0
+
+-- the plan that bytes mean
 abbrev pub plan_of : ℕ → ℕ → List ℕ → Plan
-plan_of rows cols bytes = record { rows = rows; cols = cols; free = λ r c. (nat_lt r rows && nat_lt c cols) && (slice_index bytes (r * cols + c) == 0) }
+plan_of rows cols bytes = record { rows = rows; cols = cols; free = λ r c. (nat_lt r rows && nat_lt c cols) && free_at bytes (r * cols + c) }
 
 -- what is written for a cell
 abbrev pub written : Bool → ℕ

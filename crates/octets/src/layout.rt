@@ -1,12 +1,14 @@
 // A plan on lent bytes: byte row × columns + column is 0 for an open cell and 1 for a closed one.
-ghost use Rattle.std.specs.Prelude.{◌≡◌, ◌*◌, ◌≤◌, true, length, refl};
+ghost use Rattle.std.specs.Prelude.{◌≡◌, ◌*◌, ◌<◌, ◌≤◌, true, length, refl};
 ghost use Rattle.std.proofs.Common.{◌∙◌};
 ghost use Rattle.source.specs.Sizes.{within_limits};
 ghost use Rattle.source.specs.Within.{sized_plan};
-ghost use Rattle.octets.specs.Layout.{plan_of, Kept, Made};
+ghost use Rattle.octets.specs.Layout.{free_at, plan_of, Kept, Made};
+ghost use Rattle.octets.specs.Reaches.{Leads, opens_beside};
 ghost use Rattle.octets.specs.Laws.{kept_same, kept_on};
 
-use floor::Cell;
+use crate::reaches::{Reach, Stride};
+use floor::{Cell, Heading, Side};
 use source::{Footprint, Ground, JumpSource, OnMemory, Size};
 
 const OPEN: u8 = 0;
@@ -34,6 +36,21 @@ impl<'a> ByteSource<'a> {
             bytes: memory,
         }
     }
+
+    fn is_free_at(&self, index: usize) -> bool
+        requires { index < length self.now.bytes.now }
+        ensures { result ≡ free_at self.now.bytes.now index }
+    {
+        self.bytes[index] == OPEN
+    }
+
+    // Whether the way to a side is closed at one cell and open at the next.
+    fn opens_beside(&self, at: usize, next: usize, aside: Stride) -> bool
+        requires { Leads aside at (length self.now.bytes.now) × Leads aside next (length self.now.bytes.now) }
+        ensures { result ≡ opens_beside self.now.bytes.now at next aside }
+    {
+        !self.is_free_at(aside.moved(at)) && self.is_free_at(aside.moved(next))
+    }
 }
 
 impl<'a> Ground for ByteSource<'a> {
@@ -42,9 +59,32 @@ impl<'a> Ground for ByteSource<'a> {
     ghost small = { λ s. sized_plan _ s.size.few };
 
     fn is_free(&self, cell: Cell) -> bool {
-        self.size
-            .index_of(cell)
-            .is_some_and(|index| self.bytes[index] == OPEN)
+        let Some(index) = self.size.index_of(cell) else {
+            return false;
+        };
+        self.is_free_at(index)
+    }
+
+    // By index along a row or a column: no step of the reach meets an edge. Where no cell lies beside, the cell itself is asked, which is open.
+    fn straight_jump(&self, cell: Cell, towards: Heading) -> (u16, bool) {
+        if !self.is_free(cell) {
+            return (0, false);
+        }
+        let ahead = Reach::of(self.size, cell, towards);
+        let left = Stride::beside(self.size, cell, towards, Side::Left);
+        let right = Stride::beside(self.size, cell, towards, Side::Right);
+        let mut at = cell.row * self.size.cols + cell.col;
+        for steps in 0..ahead.room {
+            let next = ahead.stride.moved(at);
+            if !self.is_free_at(next) {
+                return (steps, false);
+            }
+            if self.opens_beside(at, next, left) || self.opens_beside(at, next, right) {
+                return (steps + 1, true);
+            }
+            at = next;
+        }
+        (ahead.room, false)
     }
 }
 

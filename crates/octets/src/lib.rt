@@ -3,6 +3,7 @@
 
 mod drawn;
 mod layout;
+mod reaches;
 
 pub use drawn::draw;
 pub use layout::ByteSource;

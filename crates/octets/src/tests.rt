@@ -15,13 +15,18 @@ fn one_pillar(memory: &mut [u8]) -> ByteSource<'_> {
 }
 
 // From row and column with a heading: steps, and whether live.
-const JUMPS: [(usize, usize, u8, u16, bool); 8] = [
+const JUMPS: [(usize, usize, u8, u16, bool); 11] = [
     // past the pillar the side opens up
     (1, 0, 2, 2, true),
     // to the wall
     (2, 0, 2, 4, false),
     // the stop on the other side of the pillar
     (1, 4, 6, 4, true),
+    // down a column, and down the one at the edge
+    (0, 2, 4, 1, true),
+    (0, 0, 4, 1, true),
+    // up to the edge
+    (2, 0, 0, 2, false),
     // a straight jump beside is live
     (2, 0, 1, 1, true),
     // no corner is cut

@@ -14,7 +14,7 @@ use Rattle.floor.specs.Plans.{Plan, open_at, opens, is_open, legal}
 use Rattle.floor.specs.Jumps.{stop, stops}
 use Rattle.floor.proofs.Plane.{other, at}
 use Rattle.floor.proofs.Legal.{legal_from}
-use Rattle.floor.proofs.Jumps.{scanned, straight_mark, scan_blocked, scan_found, scan_further, closed_stays}
+use Rattle.floor.proofs.Jumps.{scanned, straight_mark, scan_blocked, scan_found, scan_further}
 use Rattle.source.specs.Ground.{straight_from}
 use Rattle.source.proofs.Walks.{no_end}
 use Rattle.packed.specs.declared.words.Way.{Way}
@@ -268,7 +268,3 @@ module _ (rows cols : ℕ) (words : List ℕ) (laid : Laid rows cols words) wher
     straight_scan free lines r t way e f around scan =
         scan_jumps free lines r (subst (λ (u : Half × ℕ × ℕ). Around words u.0 u.1 lines) e around)
         (subst (λ w. Scanned lines (course rows cols x (upright h)).2 w r) f (subst (λ (u : Half × ℕ × ℕ). Scanned lines u.2 way r) e scan))
-
--- there is no jump from a closed cell
-pub closed_jump : (p : Plan) (h : Heading) (x : Cell) → is_open p x ≡ false → ◌≡◌ {A = ℕ × Bool} (0, false) (straight_from p x h)
-closed_jump p h x e = sym (scan_blocked p (straight_mark p h) h (point x) (closed_stays (opens p) (point x) h e))

@@ -8,8 +8,8 @@ use Rattle.floor.specs.declared.Side.TheVariants.{Left, Right}
 use Rattle.floor.specs.Plane.{Point, point, turn, step}
 use Rattle.floor.specs.Plans.{Plan, Sized, opens, is_open, legal}
 use Rattle.floor.specs.Jumps.{stop}
-use Rattle.source.specs.Ground.{clear_of_corners, stops_at, live_beside}
-use Rattle.floor.proofs.Jumps.{room_fits, straight_mark, diagonal_mark, scanned, scan_blocked, scan_found, scan_further, scan_fits}
+use Rattle.source.specs.Ground.{clear_of_corners, stops_at, straight_from, live_beside}
+use Rattle.floor.proofs.Jumps.{closed_stays, room_fits, straight_mark, diagonal_mark, scanned, scan_blocked, scan_found, scan_further, scan_fits}
 
 -- ---- legal steps by their cells
 
@@ -82,3 +82,7 @@ module _ (p : Plan) (mark : Point → Bool) (h : Heading) where
   -- the steps taken fit 16 bits
   pub few_steps : Sized p → (c d : Cell) (k : ℕ) → Along c k d → k < 128
   few_steps s c d k a = omega (arith, a.0, scan_fits p mark h (p.rows + p.cols) (point c), room_fits p 127 (omega (arith, s.few_rows)) (omega (arith, s.few_cols)) h (point c))
+
+-- there is no jump from a closed cell
+pub closed_jump : (p : Plan) (h : Heading) (c : Cell) → is_open p c ≡ false → ◌≡◌ {A = ℕ × Bool} (0, false) (straight_from p c h)
+closed_jump p h c e = sym (scan_blocked p (straight_mark p h) h (point c) (closed_stays (opens p) (point c) h e))

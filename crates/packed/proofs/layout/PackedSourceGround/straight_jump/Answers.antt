@@ -1,6 +1,7 @@
 use Rattle.std.proofs.Common.{◌≡◌, sym, ap, ◌∙◌}
 use Rattle.packed.specs.Scans.{upright}
-use Rattle.packed.proofs.Running.{course, straight_scan, closed_jump}
+use Rattle.source.proofs.Walks.{closed_jump}
+use Rattle.packed.proofs.Running.{course, straight_scan}
 use Rattle.packed.proofs.layout.PackedSourceGround.straight_jump.Goals as goal
 use Rattle.packed.proofs.layout.PackedSourceGround.straight_jump.Goals.{then-is_upright, else-is_upright}
 
