@@ -33,12 +33,10 @@ impl<'a, R: Rate> Order<Waiter> for ByCost<'a, R> {
 
     ghost lawful = { waiters_lawful (λ o. R.Rate.order o.rate.now) (λ o. R.Rate.lawful o.rate.now) (λ o. o.entries.now) (λ o. o.entries.ghost_name) };
 
+    // Kept: no match and no `||`, which would branch by what nobody can foresee, at each row of the heap.
     fn goes_before(&self, a: &Waiter, b: &Waiter) -> bool {
-        match self.rate.compare(a.key(), b.key()) {
-            Comparison::Cheaper => true,
-            Comparison::Same => a.place < b.place,
-            Comparison::Dearer => false,
-        }
+        let cost = self.rate.compare(a.key(), b.key());
+        (cost == Comparison::Cheaper) | ((cost == Comparison::Same) & (a.place < b.place))
     }
 
     fn placed(&mut self, item: &Waiter, slot: usize) {
