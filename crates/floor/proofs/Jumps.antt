@@ -1,17 +1,19 @@
 -- Every jump has one answer. A run of legal steps ends, since each leaves less room ahead; so a scan can be unrolled step by step without end,
 -- and what it finds is the only run there is.
-use Rattle.std.proofs.Common.{◌≡◌, ℕ, zero, suc, ◌+◌, ◌-◌, ◌<◌, ◌≤◌, Bool, true, false, cond, ◌||◌, ℤ, pos, negsuc, nat_abs, ◌≤ℤ◌, ◌<ℤ◌, Some, None, Option, sym, refl, ap, ◌∙◌, subst, inl, inr, true≢false, arith}
+use Rattle.std.proofs.Common.{◌≡◌, ℕ, zero, suc, ◌+◌, ◌-◌, ◌<◌, ◌≤◌, Bool, true, false, cond, ◌||◌, pos, nat_abs, ◌≤ℤ◌, ◌<ℤ◌, Some, None, Option, sym, refl, ap, ◌∙◌, subst, inl, inr, true≢false, arith}
 use mathlib.Core.Bool.{false≢true}
 use borrow.Author.Differences.{ints}
-use Rattle.std.proofs.lemmas.Bool.{cases_Bool, cases_order, and_parts, or_cases, or_left, or_right, ltb-true, both_ways}
+use Rattle.std.proofs.lemmas.Bool.{cases_Bool, cases_order, or_cases, or_left, or_right, both_ways}
 use Rattle.floor.specs.declared.Cell.{Cell}
 use Rattle.floor.specs.declared.Heading.{Heading}
 use Rattle.floor.specs.declared.Heading.TheVariants.{North, NorthEast, East, SouthEast, South, SouthWest, West, NorthWest}
 use Rattle.floor.specs.declared.Side.{Side}
 use Rattle.floor.specs.declared.Side.TheVariants.{Left, Right}
-use Rattle.floor.specs.Plane.{Point, point, heading, turn, diagonal, step}
-use Rattle.floor.specs.Plans.{Plan, Sized, open_at, opens, legal}
+use Rattle.floor.specs.Plane.{Point, point, number, heading, turn, diagonal, step}
+use Rattle.floor.specs.Plans.{Plan, Sized, opens, legal}
 use Rattle.floor.specs.Jumps.{walk, stops, Run, StraightJump, DiagonalJump, Jump, scan, straight_jump, jump_from, jump_of}
+use Rattle.floor.proofs.Numbers.{numbered}
+use Rattle.floor.proofs.Cells.{found}
 use Rattle.floor.proofs.Legal.{legal_parts}
 
 -- no step from a closed cell is legal
@@ -28,17 +30,11 @@ pub record Inside (p : Plan) (x : Point) : Type 0 where
 
 -- every open cell lies inside
 pub open_inside : (p : Plan) (x : Point) → opens p x ≡ true → Inside p x
-open_inside p x = at x.row x.col
-  where
-    at : (r c : ℤ) → open_at p r c ≡ true → Inside p (record { row = r; col = c })
-    at (pos r) (pos c) e =
-        let within = and_parts _ _ (and_parts _ _ e).0 in
-        let r< : r < p.rows = ltb-true _ _ within.0 in
-        let c< : c < p.cols = ltb-true _ _ within.1 in
-        record { top = omega (arith, ints); bottom = omega (arith, ints); west = omega (arith, ints); east = omega (arith, ints) }
-    at (pos r) (negsuc c) e = absurd (false≢true e)
-    at (negsuc r) (pos c) e = absurd (false≢true e)
-    at (negsuc r) (negsuc c) e = absurd (false≢true e)
+open_inside p x o =
+    let c = found p x o in
+    let rows = c.in_rows in
+    let cols = c.in_cols in
+    subst (Inside p) c.is_cell (record { top = omega (arith, ints); bottom = omega (arith, ints); west = omega (arith, ints); east = omega (arith, ints) })
 
 -- how many steps of a heading stay inside
 unfoldable ahead : Plan → Heading → Point → ℕ
@@ -307,6 +303,10 @@ module _ (p : Plan) where
     | inl d ↦ omega (arith, ap (λ (j : ℕ × Bool). j.0) (jump_diagonal x h d), scan_fits p (diagonal_mark h) h (p.rows + p.cols) x, room_fits p n r c h x)
     | inr d ↦ omega (arith, ap (λ (j : ℕ × Bool). j.0) (jump_straight x h d), scan_fits p (straight_mark h) h (p.rows + p.cols) x, room_fits p n r c h x)
   ]
+
+-- the jump of a heading's number is the heading's
+pub jump_numbered : (p : Plan) (c : Cell) (h : Heading) → jump_of p c (number h) ≡ jump_from p (point c) h
+jump_numbered p c h = ap (λ o. elim o as (λ _. ℕ × Bool) [ Some g ↦ jump_from p (point c) g | None ↦ (0, false) ]) (numbered h)
 
 -- the same of every cell and every heading's number, those of no heading too
 pub numbered_short : (p : Plan) → Sized p → (c : Cell) (n : ℕ) → (jump_of p c n).0 < 128

@@ -1,4 +1,6 @@
 pub mod Plane
+pub mod Numbers
+pub mod Cells
 pub mod Legal
 pub mod Walks
 pub mod Pigeonhole

@@ -1,29 +1,17 @@
 -- A route bends at the end of each of its runs and nowhere else: along a run nothing is added to the corners.
-use Rattle.std.proofs.Common.{◌≡◌, ℕ, zero, suc, ◌≤◌, Bool, true, false, cond, List, [], ◌∷◌, ◌++◌, length, replicate, Some, sym, refl, ap, ◌∙◌, inl, inr, not-suc-le-zero, arith}
-use Rattle.std.proofs.lemmas.Bool.{cases_Bool, cond_both, eqb-true, eq-eqb}
+use Rattle.std.proofs.Common.{◌≡◌, ℕ, zero, suc, ◌≤◌, false, cond, List, [], ◌∷◌, ◌++◌, length, replicate, sym, refl, ap, ◌∙◌, inl, inr, not-suc-le-zero, arith}
+use Rattle.std.proofs.lemmas.Bool.{cases_Bool, cond_both}
 use Rattle.floor.specs.declared.Heading.{Heading}
-use Rattle.floor.specs.Tally.{counts, none, plus}
-use Rattle.floor.specs.Plane.{Point, number, heading, same, diagonal, step}
+use Rattle.floor.specs.Tally.{plus}
+use Rattle.floor.specs.Plane.{Point, same, step}
 use Rattle.floor.specs.Routes.{cells, one, tally, bends, corners}
 use Rattle.floor.specs.Jumps.{walk}
 use Rattle.floor.specs.Places.{many}
 use Rattle.floor.specs.Runs.{Stretch, laid_out, ends_of, sum_of, TurnsFrom, Turning}
 use Rattle.floor.specs.Facts.{ByRuns, FromRuns}
-use Rattle.floor.proofs.Plane.{each}
-use Rattle.floor.proofs.Walks.{pair, tally-++}
+use Rattle.floor.proofs.Numbers.{same_is, same_self}
+use Rattle.floor.proofs.Walks.{many_none, many_more, tally-++}
 use Rattle.floor.proofs.Simple.{cells_steps}
-
--- ---- headings are known by their numbers
-
-numbered : (h : Heading) → heading (number h) ≡ Some h
-numbered = each (λ h. heading (number h) ≡ Some h) refl refl refl refl refl refl refl refl
-
-pub same_is : (h g : Heading) → same h g ≡ true → h ≡ g
-same_is h g e =
-    let p : Some h ≡ Some g = sym (numbered h) ∙ ap heading (eqb-true _ _ e) ∙ numbered g in cc
-
-pub same_self : (h : Heading) → same h h ≡ true
-same_self h = eq-eqb _ _ refl
 
 -- ---- along a run
 
@@ -31,20 +19,6 @@ bends_run : (x : Point) (h : Heading) (k : ℕ) (hs : List Heading) → bends x 
 bends_run x h zero hs = refl
 bends_run x h (suc k) hs =
     ap (λ b. cond b (bends (step h x) h (replicate k h ++ hs)) (x ∷ bends (step h x) h (replicate k h ++ hs))) (same_self h) ∙ bends_run (step h x) h k hs
-
-many_more : (h : Heading) (k : ℕ) → plus (one h) (many h k) ≡ many h (suc k)
-many_more h k = both (diagonal h)
-  where
-    both : (b : Bool) → plus (cond b (counts 0 1) (counts 1 0)) (cond b (counts 0 k) (counts k 0)) ≡ cond b (counts 0 (suc k)) (counts (suc k) 0)
-    both true = pair (omega arith) (omega arith)
-    both false = pair (omega arith) (omega arith)
-
-many_none : (h : Heading) → many h 0 ≡ none
-many_none h = both (diagonal h)
-  where
-    both : (b : Bool) → cond b (counts 0 0) (counts 0 0) ≡ none
-    both true = refl
-    both false = refl
 
 pub tally_run : (h : Heading) (k : ℕ) → tally (replicate k h) ≡ many h k
 tally_run h zero = sym (many_none h)

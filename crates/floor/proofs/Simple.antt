@@ -1,16 +1,17 @@
 -- Every route has one below it that visits no cell twice: where a cell comes again, leave out what lies between.
-use Rattle.std.proofs.Common.{◌≡◌, ℕ, suc, ◌+◌, ◌*◌, ◌<◌, ◌≤◌, Bool, true, false, cond, ◌⊎◌, List, [], ◌∷◌, map, length, ℤ, pos, negsuc, nat_abs, sym, refl, ap, ◌∙◌, subst, inl, inr, arith}
+use Rattle.std.proofs.Common.{◌≡◌, ℕ, ◌+◌, ◌*◌, ◌<◌, ◌≤◌, Bool, true, ◌⊎◌, List, [], ◌∷◌, map, length, pos, nat_abs, sym, refl, ap, ◌∙◌, subst, inl, inr, arith}
 use lib.IntN.{ℤ_discrete}
-use Rattle.std.proofs.lemmas.Bool.{and_parts, both_ways, ltb-true, cases_order}
-use Rattle.std.proofs.lemmas.Nat.{mul-le}
+use Rattle.std.proofs.lemmas.Nat.{mul-add-lt}
 use Rattle.std.proofs.lemmas.List.{length-map}
 use Rattle.floor.specs.declared.Counts.{Counts}
 use Rattle.floor.specs.declared.Heading.{Heading}
-use Rattle.floor.specs.Tally.{counts, steps}
-use Rattle.floor.specs.Plane.{Point, diagonal, step}
-use Rattle.floor.specs.Plans.{Plan, open_at, opens}
-use Rattle.floor.specs.Routes.{end, cells, one, tally, Apart, Distinct, Laying, Walk, Fair}
+use Rattle.floor.specs.Tally.{steps}
+use Rattle.floor.specs.Plane.{Point, step}
+use Rattle.floor.specs.Plans.{Plan, opens}
+use Rattle.floor.specs.Routes.{end, cells, tally, Apart, Distinct, Laying, Walk, Fair}
 use Rattle.floor.proofs.Plane.{at}
+use Rattle.floor.proofs.Cells.{found, same_pair}
+use Rattle.floor.proofs.Walks.{many_steps}
 use Rattle.floor.proofs.Pigeonhole.{Below, few_below}
 
 pub point_dec : (x y : Point) → (x ≡ y) ⊎ (x ≡ y → ⊥)
@@ -80,17 +81,10 @@ module _ (may : Laying) (free : Point → Bool) where
 
 -- ---- counting cells
 
-one_step : (h : Heading) → steps (one h) ≡ 1
-one_step h = both (diagonal h)
-  where
-    both : (b : Bool) → steps (cond b (counts 0 1) (counts 1 0)) ≡ 1
-    both true = refl
-    both false = refl
-
 -- a route has one cell more than it has steps
 pub cells_steps : (x : Point) (hs : List Heading) → length (cells x hs) ≡ steps (tally hs) + 1
 cells_steps x [] = refl
-cells_steps x (h ∷ hs) = let e = cells_steps (step h x) hs in let o = one_step h in omega arith
+cells_steps x (h ∷ hs) = let e = cells_steps (step h x) hs in let o = many_steps h 1 in omega arith
 
 abbrev pub All : (Point → Type 0) → List Point → Type 0
 All P [] = Unit {0}
@@ -100,51 +94,19 @@ All P (x ∷ xs) = P x × All P xs
 seat : ℕ → Point → ℕ
 seat w x = nat_abs x.row * w + nat_abs x.col
 
-record Seated (p : Plan) (x : Point) : Type 0 where
-  row : ℕ
-  col : ℕ
-  is : x ≡ record { row = pos row; col = pos col }
-  row_fits : row < p.rows
-  col_fits : col < p.cols
-
-seated : (p : Plan) (x : Point) → opens p x ≡ true → Seated p x
-seated p x h = by x.row x.col refl refl h
-  where
-    by : (r c : ℤ) → x.row ≡ r → x.col ≡ c → open_at p r c ≡ true → Seated p x
-    by (pos r) (pos c) e f o =
-        let i = and_parts _ _ (and_parts _ _ o).0 in
-        record { row = r; col = c; is = at e f; row_fits = ltb-true _ _ i.0; col_fits = ltb-true _ _ i.1 }
-    by (pos r) (negsuc c) e f o = absurd (both_ways false refl o)
-    by (negsuc r) (pos c) e f o = absurd (both_ways false refl o)
-    by (negsuc r) (negsuc c) e f o = absurd (both_ways false refl o)
-
--- row by row the numbers below rows × cols: a row and a column are known by their number
-rows_apart : (w r c k d : ℕ) → c < w → r < k → r * w + c ≡ k * w + d → ⊥
-rows_apart w r c k d cw rk e = let m = mul-le (suc r) w k w rk (omega arith) in omega arith
-
-same_seat : (w r c k d : ℕ) → c < w → d < w → r * w + c ≡ k * w + d → (r ≡ k) × (c ≡ d)
-same_seat w r c k d cw dw e = elim (cases_order r k) [
-  | inl s ↦ (s, let m = ap (λ z. z * w) s in omega arith)
-  | inr o ↦ elim o [ inl l ↦ absurd (rows_apart w r c k d cw l e) | inr l ↦ absurd (rows_apart w k d r c dw l (sym e)) ]
-]
-
 seats_fit : (p : Plan) (x : Point) → opens p x ≡ true → seat p.cols x < p.rows * p.cols
 unfolding seat
 seats_fit p x o =
-    let s = seated p x o in
-    let m = mul-le (suc s.row) p.cols p.rows p.cols s.row_fits (omega arith) in
-    let l = s.col_fits in
-    subst (λ z. nat_abs z.row * p.cols + nat_abs z.col < p.rows * p.cols) (sym s.is) (omega arith)
+    let s = found p x o in
+    subst (λ z. nat_abs z.row * p.cols + nat_abs z.col < p.rows * p.cols) s.is_cell (omega (arith, mul-add-lt s.cell.row p.cols s.cell.col p.rows s.in_rows s.in_cols))
 
 seats_apart : (p : Plan) (x y : Point) → opens p x ≡ true → opens p y ≡ true → seat p.cols x ≡ seat p.cols y → x ≡ y
 unfolding seat
 seats_apart p x y o q e =
-    let s = seated p x o in
-    let t = seated p y q in
-    let u : s.row * p.cols + s.col ≡ t.row * p.cols + t.col =
-    sym (ap (λ z. nat_abs z.row * p.cols + nat_abs z.col) s.is) ∙ e ∙ ap (λ z. nat_abs z.row * p.cols + nat_abs z.col) t.is in
-    let v = same_seat p.cols s.row s.col t.row t.col s.col_fits t.col_fits u in
-    s.is ∙ at (ap pos v.0) (ap pos v.1) ∙ sym t.is
+    let s = found p x o in
+    let t = found p y q in
+    let v = same_pair p.cols s.cell.row s.cell.col t.cell.row t.cell.col s.in_cols t.in_cols (ap (seat p.cols) s.is_cell ∙ e ∙ ap (seat p.cols) (sym t.is_cell)) in
+    sym s.is_cell ∙ at (ap pos v.0) (ap pos v.1) ∙ t.is_cell
 
 module _ (p : Plan) where
   abbrev Open : Point → Type 0

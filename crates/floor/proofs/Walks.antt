@@ -1,10 +1,11 @@
 -- Routes join, turn round and grow, whatever the laying, if it is fair.
-use Rattle.std.proofs.Common.{◌≡◌, ℕ, Bool, true, cond, List, [], ◌∷◌, ◌++◌, sym, refl, ap, ◌∙◌, subst, arith}
+use Rattle.std.proofs.Common.{◌≡◌, ℕ, suc, Bool, true, false, cond, List, [], ◌∷◌, ◌++◌, sym, refl, ap, ◌∙◌, subst, arith}
 use Rattle.floor.specs.declared.Counts.{Counts}
 use Rattle.floor.specs.declared.Heading.{Heading}
-use Rattle.floor.specs.Tally.{counts, none, plus}
-use Rattle.floor.specs.Plane.{Point, opposite, step}
+use Rattle.floor.specs.Tally.{counts, none, plus, steps}
+use Rattle.floor.specs.Plane.{Point, opposite, diagonal, step}
 use Rattle.floor.specs.Routes.{end, one, tally, Laying, Walk, Laid, Grows, Fair}
+use Rattle.floor.specs.Places.{many}
 use Rattle.floor.proofs.Plane.{undo, opposite_diagonal}
 
 -- ---- counts
@@ -23,6 +24,28 @@ plus_none x = pair (omega arith) (omega arith)
 
 pub none_plus : (x : Counts) → plus none x ≡ x
 none_plus x = pair (omega arith) (omega arith)
+
+-- no steps of a heading, one more, and how many they are
+pub many_none : (h : Heading) → many h 0 ≡ none
+many_none h = both (diagonal h)
+  where
+    both : (b : Bool) → cond b (counts 0 0) (counts 0 0) ≡ none
+    both true = refl
+    both false = refl
+
+pub many_more : (h : Heading) (k : ℕ) → plus (one h) (many h k) ≡ many h (suc k)
+many_more h k = both (diagonal h)
+  where
+    both : (b : Bool) → plus (cond b (counts 0 1) (counts 1 0)) (cond b (counts 0 k) (counts k 0)) ≡ cond b (counts 0 (suc k)) (counts (suc k) 0)
+    both true = pair (omega arith) (omega arith)
+    both false = pair (omega arith) (omega arith)
+
+pub many_steps : (h : Heading) (k : ℕ) → steps (many h k) ≡ k
+many_steps h k = both (diagonal h)
+  where
+    both : (b : Bool) → steps (cond b (counts 0 k) (counts k 0)) ≡ k
+    both true = omega arith
+    both false = omega arith
 
 -- ---- joining
 

@@ -3,7 +3,7 @@ use Rattle.std.proofs.Common.{◌≡◌, ℕ, zero, suc, Bool, true, false, cond
 use Rattle.floor.specs.declared.Heading.{Heading}
 use Rattle.floor.specs.Plane.{Point, same, step}
 use Rattle.floor.specs.Routes.{end, bends, corners}
-use Rattle.floor.proofs.Runs.{same_self}
+use Rattle.floor.proofs.Numbers.{same_self}
 
 -- the corners after x, reached with the heading g, but for the last cell
 pub inner : Point → Heading → List Heading → List Point

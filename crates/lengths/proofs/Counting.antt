@@ -1,5 +1,5 @@
 -- Eight places to a cell: what passes a test of its cell comes eight times as often as the cell.
-use Rattle.std.proofs.Common.{◌≡◌, ℕ, zero, suc, ◌+◌, ◌*◌, ◌/◌, ◌<◌, ◌≤◌, Bool, true, false, cond, refl, ap, ◌∙◌, inl, inr, mul_comm, arith}
+use Rattle.std.proofs.Common.{◌≡◌, ℕ, zero, suc, ◌+◌, ◌*◌, ◌/◌, ◌<◌, ◌≤◌, Bool, true, cond, refl, ap, ◌∙◌, inl, inr, mul_comm, arith}
 use Rattle.std.proofs.lemmas.Bool.{cases_Bool}
 use Rattle.std.proofs.lemmas.Nat.{div-mul-add}
 use Rattle.search.specs.Mark.{count}
@@ -17,11 +17,6 @@ count_le f g (suc n) h =
       | inl e ↦ let a : once (f n) ≡ 1 = ap once e in let b : once (g n) ≡ 1 = ap once (h n (omega arith) e) in omega arith
       | inr e ↦ let a : once (f n) ≡ 0 = ap once e in omega arith
     ]
-
-pub count_none : (f : ℕ → Bool) (n : ℕ) → ((k : ℕ) → f k ≡ false) → count f n ≡ 0
-unfolding count
-count_none f zero h = refl
-count_none f (suc n) h = let a : once (f n) ≡ 0 = ap once (h n) in let r = count_none f n h in omega arith
 
 module _ (f : ℕ → Bool) where
   run : (m j : ℕ) → j ≤ 8 → count (λ k. f (k / 8)) (m * 8 + j) ≡ count (λ k. f (k / 8)) (m * 8) + j * once (f m)

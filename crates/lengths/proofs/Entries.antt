@@ -8,6 +8,7 @@ use Rattle.floor.specs.Plane.{point}
 use Rattle.floor.specs.Plans.{Plan, inside, is_open}
 use Rattle.floor.specs.Places.{place, place_number}
 use Rattle.floor.specs.Places as floor
+use Rattle.floor.proofs.Cells.{cell_known}
 use Rattle.rate.specs.declared.Comparison.{Comparison}
 use Rattle.rate.specs.declared.Comparison.TheVariants.{Cheaper}
 use Rattle.pruning.specs.Claims.{Stands}
@@ -19,12 +20,13 @@ use Rattle.search.specs.declared.entry.State.TheVariants.{Unseen, Waiting, Finis
 use Rattle.search.specs.Mark.{Unmet, Done, is_done, mark, marked, way, blank, marks, count, finished, finishes}
 use Rattle.search.specs.Chain as chain
 use Rattle.search.specs.Search as search
+use Rattle.search.proofs.Marks.{count_none}
 use Rattle.places.specs.Leaps.{cell_of, heading_of, out, goal, same_cell}
-use Rattle.places.proofs.Numbers.{cell_back, heading_back, number_back, position_known, cell_known, same_cell_is}
+use Rattle.places.proofs.Numbers.{cell_back, heading_back, number_back, position_known, same_cell_is}
 use Rattle.places.proofs.Chains.{to_floor, Numbered, from_floor}
 use Rattle.lengths.specs.declared.answers.Measured.{Measured}
 use Rattle.lengths.specs.Searched.{open_cells, CheapestChain, Searched}
-use Rattle.lengths.proofs.Counting.{count_le, count_none, eightfold}
+use Rattle.lengths.proofs.Counting.{count_le, eightfold}
 
 -- an entry is marked finished exactly if its place is done, and then it carries its counts
 done : (e : Entry) → is_done (mark e) ≡ true → mark e ≡ Done (way e)
@@ -108,7 +110,7 @@ module _ (order : Counts → Counts → Comparison) (p : Plan) (s t : Cell) (es 
   pub idle : s ≡ t → ((k : ℕ) → marks es k ≡ Unmet) → (n : Measured) → n.finished ≡ 0 → Searched order p s t es n
   unfolding finishes
   idle e h n z = record {
-    counted = z ∙ sym (count_none (finished es) (length es) (none_finished es h));
+    counted = z ∙ count_none (finished es) (length es) (none_finished es h);
     few = subst (λ k. k ≤ 8 * open_cells p) (sym z) (omega arith);
     at_once = λ _. z;
     cheapest = λ c g i f. absurd (both_ways (finished es (place_number p.cols c g)) (none_finished es h (place_number p.cols c g)) f);

@@ -1,30 +1,18 @@
 -- The leaps in the headings in which a position goes on are the edges out of it.
-use Rattle.std.proofs.Common.{◌≡◌, ℕ, zero, suc, ◌<◌, Bool, cond, List, Some, None, Option, sym, refl, ap, ◌∙◌, subst, arith}
+use Rattle.std.proofs.Common.{◌≡◌, Bool, cond, List, Some, None, Option, sym, ap, ◌∙◌, subst}
 use Rattle.std.specs.Option.{option_map}
 use Rattle.floor.specs.declared.Cell.{Cell}
 use Rattle.floor.specs.declared.Heading.{Heading}
-use Rattle.floor.specs.declared.Heading.TheVariants.{North, NorthEast, East, SouthEast, South, SouthWest, West, NorthWest}
 use Rattle.floor.specs.Plane.{point, number}
 use Rattle.floor.specs.Plans.{Plan}
 use Rattle.floor.specs.Places.{spot, successor}
+use Rattle.floor.proofs.Numbers.{numbered, heading_at}
 use Rattle.pruning.specs.Goings.{taken, Goings}
 use Rattle.search.specs.declared.graph.Position.{Position}
 use Rattle.search.specs.declared.graph.Edge.{Edge}
 use Rattle.search.specs.Chain.{Edges}
 use Rattle.places.specs.Leaps.{stands, leap, leap_in, out}
-use Rattle.places.proofs.Numbers.{numbered}
 use Rattle.lengths.specs.Going.{leaps}
-
-heading_at : (n : ℕ) → n < 8 → (h : Heading) × (number h ≡ n)
-heading_at zero l = (North, refl)
-heading_at (suc zero) l = (NorthEast, refl)
-heading_at (suc (suc zero)) l = (East, refl)
-heading_at (suc (suc (suc zero))) l = (SouthEast, refl)
-heading_at (suc (suc (suc (suc zero)))) l = (South, refl)
-heading_at (suc (suc (suc (suc (suc zero))))) l = (SouthWest, refl)
-heading_at (suc (suc (suc (suc (suc (suc zero)))))) l = (West, refl)
-heading_at (suc (suc (suc (suc (suc (suc (suc zero))))))) l = (NorthWest, refl)
-heading_at (suc (suc (suc (suc (suc (suc (suc (suc n)))))))) l = absurd (omega arith)
 
 module _ (p : Plan) (s t : Cell) (q : Position) (on : List Bool) (goings : Goings p (stands p.cols s q) on) where
   in_heading : (h : Heading) → leaps p (spot (stands p.cols s q)) t on (number h) ≡ out p s t q (number h)

@@ -9,9 +9,9 @@ use Rattle.floor.specs.Plane.{Point, point, same, step}
 use Rattle.floor.specs.Plans.{Plan, opens, legal}
 use Rattle.floor.specs.Routes.{end, tally, Walk}
 use Rattle.floor.specs.Jumps.{walk}
-use Rattle.floor.specs.Places.{spot, many, successor}
+use Rattle.floor.specs.Places.{spot, many}
 use Rattle.floor.proofs.Jumps.{jump_legal}
-use Rattle.floor.proofs.Walks.{end-++, tally-++, walk-++, none_plus}
+use Rattle.floor.proofs.Walks.{many_steps, end-++, tally-++, walk-++, none_plus}
 use Rattle.floor.proofs.Runs.{tally_run}
 use Rattle.pruning.proofs.Sound.{run_walks, run_end}
 use Rattle.search.specs.declared.graph.Position.{Position}
@@ -21,16 +21,11 @@ use Rattle.search.specs.declared.entry.Reached.{Reached}
 use Rattle.search.specs.Mark.{Mark, Done, standing}
 use Rattle.search.specs.Search.{Made, Traced}
 use Rattle.places.specs.Leaps.{cell_of, heading_of, stands, out}
-use Rattle.places.proofs.Sound.{many_steps}
+use Rattle.places.proofs.Numbers.{facing}
 use Rattle.places.proofs.Chains.{Leapt, leapt, Lands, lands}
 use Rattle.lengths.specs.Trail.{Trail, direct, onward, bend, Falls}
 use Rattle.lengths.specs.Answers.{Bent}
 use Rattle.lengths.proofs.Bending.{inner, final, corners_inner, inner_run, final_run, final-++, inner-++}
-
--- the heading of arrival
-facing : Rattle.floor.specs.Places.Position → Heading
-facing (Rattle.floor.specs.Places.start x) = Rattle.floor.specs.declared.Heading.TheVariants.North
-facing (Rattle.floor.specs.Places.place x h) = h
 
 module _ (p : Plan) (s t : Cell) (marks : ℕ → Mark) (traced : Traced (out p s t) marks) where
   -- a route to a place: its first heading and the others, and the corners that the way back meets
@@ -53,7 +48,6 @@ module _ (p : Plan) (s t : Cell) (marks : ℕ → Mark) (traced : Traced (out p 
     arrival : course ≡ heading_of k
 
   run_of : (q : Position) (n : ℕ) (e : Edge) → out p s t q n ≡ Some e → Run q e.to e.counts
-  unfolding facing
   run_of q n e h =
       let l : Leapt p s t q n e = leapt p s t q n e h in
       let x : Point = spot (stands p.cols s q) in

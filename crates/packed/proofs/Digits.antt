@@ -1,6 +1,7 @@
 -- The bits of what words are made of: each law of digits, by halving, gives the law of bits.
 use Rattle.std.proofs.Common.{◌≡◌, ℕ, zero, suc, ◌+◌, ◌-◌, ◌*◌, ◌/◌, ◌%◌, ◌^◌, ◌<◌, ◌≤◌, min, max, Bool, true, false, cond, not, ◌&&◌, ◌||◌, eqb, ltb, leb, sym, refl, ap, ◌∙◌, subst, inl, inr, mul_assoc, pow-suc, div-one, one-add, arith, pow_mono}
 use native.Mathlib.Nat.{div-eq_of_lt}
+use Rattle.std.proofs.Math.Bool.{or-false}
 use lib.Bits.{bit_and, bit_or, and_step, or_step}
 use lib.Count.{count_trailing_zeros, count_leading_zeros, under}
 use Rattle.std.proofs.lemmas.Nat.{and_mask, pow_pos, pow-add, shr-shr, shl-shr, mod-mul-add, and_shr, or_shr, field_of, mod-pow-add, mod_below, div_below, le-div, leading_top}
@@ -154,10 +155,6 @@ bit_one k i p h = elim (cases_order i k) [
   ]
 ]
 
-or_false : (b : Bool) → (b || false) ≡ b
-or_false true = refl
-or_false false = refl
-
 -- ---- words as the code writes them
 
 pub reads : (w i : ℕ) → eqb (bit_and (w / 2 ^ i) 1) 1 ≡ bit w i
@@ -189,13 +186,13 @@ carries_up w last l (suc i) h =
     let j : 1 + i ≡ suc i = omega arith in
     let up : bit (w * 2 ^ 1 % 2 ^ 64) (suc i) ≡ bit w i = subst (λ z. bit (w * 2 ^ 1 % 2 ^ 64) z ≡ bit w i) j (bit_up w 1 i (omega arith)) in
     let none : bit (last / 2 ^ 63) (suc i) ≡ false = bit_down last 63 (suc i) ∙ bit_past last (63 + suc i) l (omega arith) in
-    bit_of_or (w * 2 ^ 1 % 2 ^ 64) (last / 2 ^ 63) (suc i) ∙ (λ k. up k || none k) ∙ or_false (bit w i)
+    bit_of_or (w * 2 ^ 1 % 2 ^ 64) (last / 2 ^ 63) (suc i) ∙ (λ k. up k || none k) ∙ or-false (bit w i)
 
 pub carries_down : (w last : ℕ) → w < 2 ^ 64 → (i : ℕ) → i < 64 → bit (bit_or (w / 2 ^ 1) (last * 2 ^ 63 % 2 ^ 64)) i ≡ previous Backward w last i
 carries_down w last l i h = bit_of_or (w / 2 ^ 1) (last * 2 ^ 63 % 2 ^ 64) i ∙ elim (cases_lt i 63) [
   | inl b ↦
       let next : 1 + i ≡ i + 1 = omega arith in
-      (λ k. (bit_down w 1 i ∙ ap (bit w) next) k || bit_up_low last 63 i b h k) ∙ or_false (bit w (i + 1)) ∙ sym (ap (λ t. cond t (bit w (i + 1)) (bit last 0)) (lt-ltb i 63 b))
+      (λ k. (bit_down w 1 i ∙ ap (bit w) next) k || bit_up_low last 63 i b h k) ∙ or-false (bit w (i + 1)) ∙ sym (ap (λ t. cond t (bit w (i + 1)) (bit last 0)) (lt-ltb i 63 b))
   | inr b ↦
       let top : 63 + 0 ≡ i = omega arith in
       let over : bit (last * 2 ^ 63 % 2 ^ 64) i ≡ bit last 0 = subst (λ z. bit (last * 2 ^ 63 % 2 ^ 64) z ≡ bit last 0) top (bit_up last 63 0 (omega arith)) in

@@ -1,6 +1,7 @@
 -- What a write of one bit does: no two places of a half share a bit, and the two halves share no word.
 use Rattle.std.proofs.Common.{◌≡◌, ℕ, ◌+◌, ◌*◌, ◌/◌, ◌%◌, ◌<◌, ◌≤◌, Bool, true, false, cond, not, ◌&&◌, eqb, ltb, ◌≢◌, List, length, get_or, drop, set, sym, refl, ap, ◌∙◌, subst, inl, inr, arith, get_or-set_other, get_or-set_same}
 use mathlib.Core.Bool.{not-not}
+use Rattle.std.proofs.Math.Bool.{and_comm}
 use Rattle.std.proofs.lemmas.Nat.{mul-add-lt}
 use Rattle.std.proofs.lemmas.List.{drop-set-lt, length-set}
 use Rattle.std.proofs.lemmas.Bool.{cases_Bool, cases_eq, and_parts, and_cases, and_left, and_right, ltb-true, ltb-false, lt-ltb, eq-eqb, ne_eqb, eqb-true}
@@ -105,17 +106,11 @@ module _ (rows cols : ℕ) (words : List ℕ) (x : Cell) (r< : x.row < rows) (c<
         fits = omega (arith, laid.fits, length-set (set words across v) down w, length-set words across v);
         agree = λ r c at.
             in_cols c r at.1 (omega (arith, at.0)) ∙
-            (λ t. cond (swapped (eqb c x.col) (eqb r x.row) t) (not b) (laid.agree r c at t)) ∙
+            (λ t. cond (and_comm (eqb c x.col) (eqb r x.row) t) (not b) (laid.agree r c at t)) ∙
             sym (in_rows r c at.0 (omega (arith, at.1)));
         row_ends = λ l i at. in_rows l i at.0 at.2 ∙ still (eqb l x.row) cols x.col i _ c< at.1 ∙ laid.row_ends l i at;
         col_ends = λ l i at. in_cols l i at.0 at.2 ∙ still (eqb l x.col) rows x.row i _ r< at.1 ∙ laid.col_ends l i at;
       }
-        where
-          swapped : (s t : Bool) → (s && t) ≡ (t && s)
-          swapped true true = refl
-          swapped true false = refl
-          swapped false true = refl
-          swapped false false = refl
 
       -- what one cell says afterwards
       cell_says : (r c : ℕ) →

@@ -3,6 +3,7 @@
 use Rattle.std.proofs.Common.{◌≡◌, ℕ, zero, suc, ◌+◌, ◌-◌, ◌*◌, ◌<◌, ◌≤◌, Bool, true, false, cond, not, ◌&&◌, ◌||◌, ltb, List, ℤ, pos, negsuc, ◌+ℤ◌, sym, refl, ap, ◌∙◌, subst, inl, inr, arith}
 use mathlib.Core.Bool.{not-not}
 use borrow.Author.Differences.{ints}
+use Rattle.std.proofs.Math.Bool.{and_comm, or_comm}
 use Rattle.std.proofs.lemmas.Bool.{true≢false, cases_Bool, cases_lt, and_parts, or_parts, or_from, both_ways, not-false, ltb-true, lt-ltb, le-ltb}
 use Rattle.floor.specs.declared.Cell.{Cell}
 use Rattle.floor.specs.declared.Heading.{Heading}
@@ -84,13 +85,7 @@ sides NorthWest d = absurd (true≢false d)
 
 either_order : (free : Point → Bool) (x : Point) (h : Heading) (s : Side) → stops free x h ≡ (stop free x h s || stop free x h (other s))
 either_order free x h Left = refl
-either_order free x h Right = swapped (stop free x h Left) (stop free x h Right)
-  where
-    swapped : (a b : Bool) → (a || b) ≡ (b || a)
-    swapped true true = refl
-    swapped true false = refl
-    swapped false true = refl
-    swapped false false = refl
+either_order free x h Right = or_comm (stop free x h Left) (stop free x h Right)
 
 -- ---- steps along a line
 
@@ -221,18 +216,12 @@ module _ (rows cols : ℕ) (words : List ℕ) (laid : Laid rows cols words) wher
   turned_over : (r c : ℕ) →
       not ((ltb c cols && ltb r rows) && ((ltb c cols && ltb r rows) && not (shut words (by_cols rows cols) c r))) ≡
       not ((ltb r rows && ltb c cols) && ((ltb r rows && ltb c cols) && not (shut words (by_rows rows cols) r c)))
-  turned_over r c = ap (λ t. not (t && (t && not (shut words (by_cols rows cols) c r)))) (swapped (ltb c cols) (ltb r rows)) ∙ elim (cases_Bool (ltb r rows && ltb c cols)) [
+  turned_over r c = ap (λ t. not (t && (t && not (shut words (by_cols rows cols) c r)))) (and_comm (ltb c cols) (ltb r rows)) ∙ elim (cases_Bool (ltb r rows && ltb c cols)) [
     | inr out ↦ rw out
     | inl within ↦
         let both = and_parts (ltb r rows) (ltb c cols) within in
         ap (λ b. not ((ltb r rows && ltb c cols) && ((ltb r rows && ltb c cols) && not b))) (laid.agree r c (ltb-true r rows both.0, ltb-true c cols both.1))
   ]
-    where
-      swapped : (a b : Bool) → (a && b) ≡ (b && a)
-      swapped true true = refl
-      swapped true false = refl
-      swapped false true = refl
-      swapped false false = refl
 
   shows_plan : (up : Bool) (m q : ℕ) → line_at words (half_of rows cols up) m q ≡ not (opens plan (spot up (coordinate m) (coordinate q)))
   unfolding line_at

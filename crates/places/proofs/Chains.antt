@@ -11,6 +11,8 @@ use Rattle.floor.specs.Routes.{Laid}
 use Rattle.floor.specs.Jumps.{walk}
 use Rattle.floor.specs.Places.{start, place, spot, place_number, many, goes_on, successor, begin}
 use Rattle.floor.specs.Places as floor
+use Rattle.floor.proofs.Numbers.{numbered, number_below}
+use Rattle.floor.proofs.Cells.{Found, found}
 use Rattle.floor.proofs.Legal.{legal_fair}
 use Rattle.floor.proofs.Walks.{end_open}
 use Rattle.pruning.specs.Claims.{LegalLeap}
@@ -20,7 +22,7 @@ use Rattle.search.specs.declared.graph.Position.TheVariants.{Start, Place}
 use Rattle.search.specs.declared.graph.Edge.{Edge}
 use Rattle.search.specs.Chain as search
 use Rattle.places.specs.Leaps.{cell_of, heading_of, stands, cell_at, leap, leap_in, out}
-use Rattle.places.proofs.Numbers.{numbered, few_headings, Found, found, cell_back, heading_back, number_fits}
+use Rattle.places.proofs.Numbers.{cell_back, heading_back, number_fits}
 
 module _ (p : Plan) (s t : Cell) where
   -- an edge, taken apart: a heading in which the position goes on, and the steps to the successor
@@ -61,14 +63,14 @@ module _ (p : Plan) (s t : Cell) where
       let r : Laid legal (opens p) x (walk h k x) (many h k) = l.route in
       let o : opens p (walk h k x) ≡ true = subst (λ y. opens p y ≡ true) r.ends (end_open legal (opens p) legal_fair x r.headings r.starts r.walks) in
       let f : Found p (walk h k x) = found p (walk h k x) o in
-      let c : cell_at (walk h k x) ≡ f.cell = ap cell_at (sym f.there) in
+      let c : cell_at (walk h k x) ≡ f.cell = ap cell_at (sym f.is_cell) in
       let back : cell_of p.cols (place_number p.cols (cell_at (walk h k x)) h) ≡ f.cell =
-      ap (λ z. cell_of p.cols (place_number p.cols z h)) c ∙ cell_back p.cols f.cell h f.col_fits in
+      ap (λ z. cell_of p.cols (place_number p.cols z h)) c ∙ cell_back p.cols f.cell h f.in_cols in
       record {
         legs = l;
         cell = f;
-        there = λ i. place ((ap point back ∙ f.there) i) (heading_back p.cols (cell_at (walk h k x)) h i);
-        fits = subst (λ z. place_number p.cols z h < 8 * (p.rows * p.cols)) (sym c) (number_fits p.cols f.cell h p.rows f.row_fits f.col_fits);
+        there = λ i. place ((ap point back ∙ f.is_cell) i) (heading_back p.cols (cell_at (walk h k x)) h i);
+        fits = subst (λ z. place_number p.cols z h < 8 * (p.rows * p.cols)) (sym c) (number_fits p.cols f.cell h p.rows f.in_rows f.in_cols);
       }
 
   pub to_floor : {q : Position} {n : Counts} → search.Chain (out p s t) q n → floor.Chain p (point s) (point t) (stands p.cols s q) n
@@ -101,5 +103,5 @@ module _ (p : Plan) (s t : Cell) where
       record {
         position = Place e.to;
         lies = w.there ∙ ap (λ a. place (walk h k (spot a)) h) r.lies;
-        chain = search.step q n (number h) e r.chain (few_headings h) edge;
+        chain = search.step q n (number h) e r.chain (number_below h) edge;
       }

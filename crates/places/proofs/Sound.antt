@@ -1,13 +1,13 @@
 -- The graph of leaps is sound: its edges fit, and every chain to the target has one of few steps that is never dearer.
 -- A chain is a route; the route is cut down to distinct cells; and a chain dominates what is left.
-use Rattle.std.proofs.Common.{◌≡◌, ℕ, ◌*◌, ◌<◌, ◌≤◌, Bool, true, false, cond, not, Some, sym, refl, ap, ◌∙◌, subst, arith}
+use Rattle.std.proofs.Common.{◌≡◌, ℕ, ◌*◌, ◌<◌, ◌≤◌, true, false, not, Some, sym, refl, ap, ◌∙◌, subst, arith}
 use Rattle.std.proofs.lemmas.Nat.{mul-le}
 use Rattle.std.proofs.lemmas.Bool.{both_ways, and_parts, and_from, not-true}
 use Rattle.floor.specs.declared.Cell.{Cell}
 use Rattle.floor.specs.declared.Counts.{Counts}
 use Rattle.floor.specs.declared.Heading.{Heading}
-use Rattle.floor.specs.Tally.{counts, steps, Dominates}
-use Rattle.floor.specs.Plane.{Point, point, diagonal}
+use Rattle.floor.specs.Tally.{steps, Dominates}
+use Rattle.floor.specs.Plane.{Point, point}
 use Rattle.floor.specs.Plans.{Plan, Sized, opens, legal}
 use Rattle.floor.specs.Routes.{Laid, Route}
 use Rattle.floor.specs.Facts.{Simple}
@@ -17,6 +17,8 @@ use Rattle.floor.specs.Places as floor
 use Rattle.floor.proofs.Legal.{legal_fair}
 use Rattle.floor.proofs.Kept.{shorten, sixteen_thousand}
 use Rattle.rate.specs.Facts as rate
+use Rattle.floor.proofs.Cells.{cell_known}
+use Rattle.floor.proofs.Walks.{many_steps}
 use Rattle.rate.proofs.Derived.{facts}
 use Rattle.pruning.specs.Claims.{Linked}
 use Rattle.pruning.proofs.Pruning.{no_cheaper_run_is_lost, every_chain_is_a_route, successors_are_leaps}
@@ -26,19 +28,12 @@ use Rattle.search.specs.declared.graph.Edge.{Edge}
 use Rattle.search.specs.Chain as search
 use Rattle.search.specs.Chain.{most, NeverDearer, Short, Fits, Sound}
 use Rattle.places.specs.Leaps.{cell_of, heading_of, stands, cell_at, out, same_cell, goal}
-use Rattle.places.proofs.Numbers.{cell_known, same_cell_is, same_cell_from}
+use Rattle.places.proofs.Numbers.{same_cell_is, same_cell_from}
 use Rattle.places.proofs.Chains.{Leapt, leapt, Lands, lands, to_floor, Numbered, from_floor}
 
--- ---- fitting edges
-
-pub many_steps : (h : Heading) (k : ℕ) → steps (many h k) ≡ k
-many_steps h k = both (diagonal h)
-  where
-    both : (b : Bool) → steps (cond b (counts 0 k) (counts k 0)) ≡ k
-    both true = omega arith
-    both false = omega arith
-
 module _ (p : Plan) (z : Sized p) (s t : Cell) where
+  -- ---- fitting edges
+
   edge_fits : (q : Position) (n : ℕ) (e : Edge) → out p s t q n ≡ Some e → Fits (8 * (p.rows * p.cols)) e
   edge_fits q n e h =
       let l : Leapt p s t q n e = leapt p s t q n e h in

@@ -1,5 +1,5 @@
 -- What the source's jump and the first sighting tell together: where the successor lies, and that a cell of the machine can hold it.
-use Rattle.std.proofs.Common.{◌≡◌, ℕ, zero, suc, ◌^◌, ◌<◌, Bool, true, leb, Some, None, Option, sym, refl, ap, ◌∙◌, subst, inl, inr, not-suc-le-zero, arith}
+use Rattle.std.proofs.Common.{◌≡◌, ℕ, zero, suc, ◌^◌, ◌<◌, Bool, true, leb, Some, None, Option, sym, ap, ◌∙◌, subst, inl, inr, not-suc-le-zero, arith}
 use Rattle.std.proofs.lemmas.Bool.{cases_Bool, and_parts, cond-true, cond-false, leb-true, leb-false}
 use Rattle.floor.specs.declared.Cell.{Cell}
 use Rattle.floor.specs.declared.Heading.{Heading}
@@ -8,16 +8,14 @@ use Rattle.floor.specs.Plane.{Point, point, number}
 use Rattle.floor.specs.Plans.{Plan, Sized, inside, opens, is_open}
 use Rattle.floor.specs.Jumps.{walk, jump_from, jump_of}
 use Rattle.floor.specs.Places.{many, successor}
-use Rattle.floor.proofs.Plane.{each}
-use Rattle.floor.proofs.Steps.{Found, found}
+use Rattle.floor.proofs.Cells.{Found, found}
+use Rattle.floor.proofs.Walks.{many_steps}
+use Rattle.floor.proofs.Jumps.{jump_numbered}
 use Rattle.pruning.specs.Successors.{Lands, Sighted, far_of}
 use Rattle.pruning.specs.Claims.{LegalLeap}
 use Rattle.pruning.specs.declared.successors.Leap.{Leap}
 use Rattle.pruning.proofs.Sightings.{first_at, no_first, successor_by}
-use Rattle.pruning.proofs.Sound.{some_steps, leap_is, leap_open}
-
-jump_number : (p : Plan) (c : Cell) (h : Heading) → jump_of p c (number h) ≡ jump_from p (point c) h
-jump_number p c = each (λ h. jump_of p c (number h) ≡ jump_from p (point c) h) refl refl refl refl refl refl refl refl
+use Rattle.pruning.proofs.Sound.{leap_is, leap_open}
 
 module _ (p : Plan) (t x : Point) (h : Heading) where
   -- a first sighting that the jump gets to, or one that it does not
@@ -33,7 +31,7 @@ module _ (p : Plan) (t x : Point) (h : Heading) where
 pub led : (p : Plan) (c t : Cell) (h : Heading) (n : ℕ) (j : ℕ × Bool) (k : ℕ) (o r : Option ℕ) → n ≡ number h → j ≡ jump_of p c n → k ≡ j.0 → Sighted (point t) h (point c) o →
     r ≡ far_of o k j.1 → successor p (point t) (point c) h ≡ r
 led p c t h n j k o r a b d s e =
-    far_by p (point t) (point c) h o s j.0 j.1 (sym (jump_number p c h) ∙ ap (jump_of p c) (sym a) ∙ sym b) ∙
+    far_by p (point t) (point c) h o s j.0 j.1 (sym (jump_numbered p c h) ∙ ap (jump_of p c) (sym a) ∙ sym b) ∙
     ap (λ m. far_of o m j.1) (sym d) ∙ sym e
 
 -- a successor lies on a cell of the machine
@@ -47,5 +45,5 @@ pub lands : (p : Plan) → Sized p → (t x : Point) (h : Heading) (k : ℕ) (l 
 lands p s t x h k l e at n =
     let f : LegalLeap p x h k = leap_is p t x h k e in
     let free : is_open p l.cell ≡ true = subst (λ y. opens p y ≡ true) (sym at) (leap_open p t x h k e) in
-    let c : steps l.counts ≡ k = ap steps n ∙ some_steps h k in
+    let c : steps l.counts ≡ k = ap steps n ∙ many_steps h k in
     ((and_parts (inside p l.cell) _ free).0, free, omega (arith, f.some), omega (arith, f.short s))

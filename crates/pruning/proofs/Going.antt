@@ -1,6 +1,7 @@
 -- A stop by the cells around the place itself, and the headings of a place put together.
 use Rattle.std.proofs.Common.{◌≡◌, Bool, true, false, not, ◌&&◌, ◌||◌, List, replicate, sym, refl, ap, ◌∙◌}
 use mathlib.Core.Bool.{false≢true}
+use Rattle.std.proofs.Math.Bool.{and_comm}
 use Rattle.std.proofs.lemmas.Bool.{cond-true, cond-false}
 use Rattle.floor.specs.declared.Heading.{Heading}
 use Rattle.floor.specs.declared.Side.{Side}
@@ -11,12 +12,6 @@ use Rattle.floor.specs.Jumps.{stop}
 use Rattle.floor.specs.Places.{place, opened}
 use Rattle.floor.proofs.Plane.{each, about, beside_straight, beside_diagonal, redo, swap, beside}
 use Rattle.pruning.specs.Goings.{taken, Goings}
-
-and_swap : (a b : Bool) → (a && b) ≡ (b && a)
-and_swap true true = refl
-and_swap true false = refl
-and_swap false true = refl
-and_swap false false = refl
 
 -- beside the cell before lies the cell three turns off
 behind : (s : Side) (h : Heading) (x : Point) → diagonal h ≡ false → step (turn s (turn s (turn s h))) x ≡ step (turn s (turn s h)) (step (opposite h) x)
@@ -30,7 +25,7 @@ pub stop_here : (free : Point → Bool) (s : Side) (h : Heading) (x : Point) →
 unfolding stop
 stop_here free s h x d t₂ t₃ e₂ e₃ =
     (λ i. free (step (e₂ i) x) && not (free (step (e₃ i) x))) ∙
-    and_swap (free (step (turn s (turn s h)) x)) (not (free (step (turn s (turn s (turn s h))) x))) ∙
+    and_comm (free (step (turn s (turn s h)) x)) (not (free (step (turn s (turn s (turn s h))) x))) ∙
     (λ i. not (free (behind s h x d i)) && free (step (turn s (turn s h)) (sym (redo h x) i)))
 
 either_added : (stop a b on : Bool) → stop ≡ true → (a || (b || on)) ≡ ((stop && (a || b)) || on)

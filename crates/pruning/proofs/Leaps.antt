@@ -12,8 +12,8 @@ use Rattle.floor.specs.Routes.{end, one, tally, Walk}
 use Rattle.floor.specs.Jumps.{walk, stop, stops, jump_from}
 use Rattle.floor.specs.Places.{Position, start, place, spot, sights, many, opened, goes_on, successor, Chain, begin, leap}
 use Rattle.floor.proofs.Plane.{beside_diagonal, undo}
-use Rattle.floor.proofs.Walks.{plus_assoc, plus_none, none_plus}
-use Rattle.floor.proofs.Runs.{same_self, tally_run}
+use Rattle.floor.proofs.Walks.{plus_assoc, plus_none, none_plus, many_more}
+use Rattle.floor.proofs.Numbers.{same_self}
 use Rattle.floor.proofs.Jumps.{scanned, scan_found, scan_further, straight_mark, diagonal_mark, jump_straight, jump_diagonal}
 use Rattle.pruning.specs.Claims.{Linked}
 use Rattle.pruning.proofs.Prune.{Goes, on, veer, bend, wheel, After, Pruned}
@@ -100,9 +100,6 @@ module _ (p : Plan) where
         record { far = 0; next = n; before = x; reached = refl; remain = gs; walks = w; onward = a; ends = q; counted = refl; shorter = omega arith }
 
     -- a leap of one step more
-    many_more : (h : Heading) (k : ℕ) → plus (one h) (many h k) ≡ many h (suc k)
-    many_more h k = ap (plus (one h)) (sym (tally_run h k)) ∙ tally_run h (suc k)
-
     longer : (x : Point) (h : Heading) (gs : List Heading) → successor p t x h ≡ one_on (successor p t (step h x) h) → Leap (step h x) h gs → Leap x h (h ∷ gs)
     longer x h gs n r =
         record {

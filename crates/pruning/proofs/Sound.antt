@@ -1,19 +1,18 @@
 -- The way back: every step of a jump is legal, so a chain of successors is a legal route.
-use Rattle.std.proofs.Common.{◌≡◌, ℕ, zero, suc, ◌<◌, ◌≤◌, Bool, true, false, cond, [], replicate, Some, None, Option, sym, refl, ◌∙◌, subst, inl, inr, arith}
+use Rattle.std.proofs.Common.{◌≡◌, ℕ, zero, suc, ◌<◌, ◌≤◌, Bool, true, [], replicate, Some, None, Option, sym, refl, ◌∙◌, subst, inl, inr, arith}
 use Rattle.std.proofs.lemmas.Bool.{cases_Bool, and_parts, cond-true, cond-false}
 use Rattle.floor.specs.declared.Counts.{Counts}
 use Rattle.floor.specs.declared.Heading.{Heading}
-use Rattle.floor.specs.Tally.{counts, steps}
 use Rattle.floor.specs.Plane.{Point, diagonal, step}
 use Rattle.floor.specs.Plans.{Plan, inside, opens, is_open, legal}
 use Rattle.floor.specs.Routes.{end, Walk, Laid}
 use Rattle.floor.specs.Jumps.{walk, jump_from}
-use Rattle.floor.specs.Places.{Position, place, spot, many, first, successor, Chain, begin, leap}
+use Rattle.floor.specs.Places.{Position, place, spot, first, successor, Chain, begin, leap}
 use Rattle.floor.proofs.Legal.{legal_parts, legal_fair}
-use Rattle.floor.proofs.Walks.{joined, turned_round}
+use Rattle.floor.proofs.Walks.{many_steps, joined, turned_round}
 use Rattle.floor.proofs.Runs.{tally_run}
 use Rattle.floor.proofs.Jumps.{jump_is, jump_legal, jump_short}
-use Rattle.floor.proofs.Steps.{Found, found}
+use Rattle.floor.proofs.Cells.{Found, found}
 use Rattle.pruning.specs.Claims.{LegalLeap, Stands}
 use Rattle.pruning.proofs.Sightings.{Look, first_at, no_first, look, lead, seen}
 
@@ -24,14 +23,6 @@ run_end h (suc k) x = run_end h k (step h x)
 pub run_walks : (free : Point → Bool) (h : Heading) (k : ℕ) (x : Point) → ((i : ℕ) → i < k → legal free (walk h i x) h ≡ true) → Walk legal free x (replicate k h)
 run_walks free h zero x l = tt
 run_walks free h (suc k) x l = (l 0 (omega arith), run_walks free h k (step h x) (λ i b. l (suc i) (omega arith)))
-
--- so many steps are counted
-pub some_steps : (h : Heading) (k : ℕ) → steps (many h k) ≡ k
-some_steps h k = both (diagonal h)
-  where
-    both : (b : Bool) → steps (cond b (counts 0 k) (counts k 0)) ≡ k
-    both true = omega arith
-    both false = omega arith
 
 module _ (p : Plan) where
   -- a live jump has a step
@@ -89,5 +80,5 @@ module _ (p : Plan) where
           there = a.is_cell;
           within = (and_parts (inside p a.cell) _ free).0;
           is_free = free;
-          some = omega (arith, f.some, some_steps h k);
+          some = omega (arith, f.some, many_steps h k);
         }

@@ -1,18 +1,14 @@
 -- Cells and their indices: no two cells inside have one, and each number below rows × columns is that of a cell.
 use Rattle.std.proofs.Common.{◌≡◌, ℕ, zero, suc, ◌+◌, ◌*◌, ◌/◌, ◌%◌, ◌<◌, true, cond, ◌&&◌, ltb, Some, None, sym, ap, ◌∙◌, inl, inr, arith}
-use Rattle.std.proofs.lemmas.Nat.{mul-add-lt, div-mul-add, mod-mul-add}
+use Rattle.std.proofs.lemmas.Nat.{mul-add-lt}
 use Rattle.std.proofs.lemmas.Bool.{cases_Bool, and_parts, and_from, cond-true, ltb-true, lt-ltb}
 use Rattle.std.proofs.Math.Nat.{div-add-mod, div-lt_iff_lt-mul, mod-lt}
 use Rattle.floor.specs.declared.Cell.{Cell}
+pub use Rattle.floor.proofs.Cells.{same_pair}
 use Rattle.source.specs.Indices.{index_in, ItsOwn, NoneLeftOut}
 
 pub index_below : (rows cols r c : ℕ) → r < rows → c < cols → r * cols + c < rows * cols
 index_below rows cols r c p q = omega (arith, mul-add-lt r cols c rows p q)
-
--- where one number stands for two pairs of a row and a column, the pairs are one
-pub same_pair : (cols r c r' c' : ℕ) → c < cols → c' < cols → r * cols + c ≡ r' * cols + c' → (r ≡ r') × (c ≡ c')
-same_pair cols r c r' c' p q e =
-    (sym (div-mul-add r cols c p) ∙ ap (λ k. k / cols) e ∙ div-mul-add r' cols c' q, sym (mod-mul-add r cols c p) ∙ ap (λ k. k % cols) e ∙ mod-mul-add r' cols c' q)
 
 -- a cell that has an index lies inside
 pub record Placed (rows cols : ℕ) (x : Cell) (i : ℕ) : Type 0 where

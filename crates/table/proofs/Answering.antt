@@ -6,7 +6,8 @@ use Rattle.floor.specs.declared.Heading.{Heading}
 use Rattle.floor.specs.Plane.{point, number, heading}
 use Rattle.floor.specs.Plans.{Plan, inside, is_open, closed}
 use Rattle.floor.specs.Jumps.{jump_from, jump_of}
-use Rattle.floor.proofs.Jumps.{jump_blocked, jump_short}
+use Rattle.floor.proofs.Numbers.{number_below, heading_at}
+use Rattle.floor.proofs.Jumps.{jump_blocked, jump_short, jump_numbered}
 use Rattle.source.specs.Labels.{label_of, said_by}
 use Rattle.source.specs.declared.extents.Size.{Size}
 use Rattle.source.proofs.Laid.{Gets}
@@ -17,8 +18,8 @@ use Rattle.source.proofs.LabelLaws.{label_says}
 use Rattle.source.specs.Few.{Few}
 use Rattle.table.specs.Layout.{plan_of, needed, begins, Defined, Labelled, Flagged, New, Unmade, Made, Drawn}
 use Rattle.table.specs.Equations.{label_of_point}
-use Rattle.table.proofs.Places.{inside_from, number_below, within_needed}
-use Rattle.table.proofs.Marked.{numbered, jump_numbered, all_labels}
+use Rattle.table.proofs.Places.{inside_from, within_needed}
+use Rattle.table.proofs.Marked.{all_labels}
 
 -- ---- a new table
 
@@ -91,7 +92,7 @@ module _ (rows cols : ℕ) (few : Few rows cols) (a : List ℕ) (d : Defined (pl
   -- the labels of a cell outside
   pub label_outside : (c : Cell) → inside (plan_of rows cols a) c ≡ false → (n : ℕ) → n < 8 → 32768 ≡ label_of (jump_of (plan_of rows cols a) c n)
   label_outside c o n b =
-      let g = numbered n b in
+      let g = heading_at n b in
       subst (λ k. 32768 ≡ label_of (jump_of (plan_of rows cols a) c k)) g.1
       (ap label_of (sym (jump_numbered (plan_of rows cols a) c g.0 ∙ jump_blocked (plan_of rows cols a) (point c) g.0 (and_left _ _ o))))
 

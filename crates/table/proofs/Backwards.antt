@@ -9,11 +9,12 @@ use Rattle.floor.specs.declared.Side.TheVariants.{Left, Right}
 use Rattle.floor.specs.Plane.{Point, point, number, turn, opposite, diagonal, step}
 use Rattle.floor.specs.Plans.{opens}
 use Rattle.floor.specs.Steps.{Stepped}
+use Rattle.floor.proofs.Numbers.{number_below, number_same}
 use Rattle.source.specs.Few.{Few}
 use Rattle.table.specs.Layout.{plan_of, needed}
 use Rattle.table.specs.Equations.{live, label_of_point, due, Holds, HoldsBut, Seed, seed, Mended, Relabelled, Mends, Written}
-use Rattle.table.proofs.Spoiled.{number_same, quiet_step, loud_step, settled}
-use Rattle.table.proofs.Places.{Inside, inside_from, number_below, Off, on_or_off, off_holds, label_put, label_kept, relabelled_put, relabelled_none, relabelled_on, same_plan}
+use Rattle.table.proofs.Spoiled.{quiet_step, loud_step, settled}
+use Rattle.table.proofs.Places.{Inside, inside_from, Off, on_or_off, off_holds, label_put, label_kept, relabelled_put, relabelled_none, relabelled_on, same_plan}
 
 module _ (rows cols : ℕ) where
   pub mends_none : (a : List ℕ) (ss : List Seed) → Mends rows cols a ss a ss

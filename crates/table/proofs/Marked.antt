@@ -1,13 +1,16 @@
 -- A mark, from the defined table before it to the defined table after: the open number is written, the seeds are walked from, and then every equation holds again.
-use Rattle.std.proofs.Common.{◌≡◌, ℕ, zero, suc, ◌+◌, ◌*◌, ◌<◌, ◌≤◌, Bool, true, false, cond, ◌&&◌, eqb, ltb, ◌≢◌, ◌⊎◌, List, [], ◌∷◌, ◌++◌, length, get_or, set, Some, None, sym, refl, ap, ◌∙◌, subst, inl, inr, arith}
-use Rattle.std.proofs.lemmas.Bool.{cases_Bool, cases_eq, and_parts, and_from, and_left, eqb-true, eq-eqb, both_ways, cond-true, cond-false}
+use Rattle.std.proofs.Common.{◌≡◌, ℕ, zero, suc, ◌+◌, ◌*◌, ◌<◌, ◌≤◌, Bool, true, false, cond, ◌&&◌, eqb, ltb, ◌≢◌, ◌⊎◌, List, [], ◌∷◌, ◌++◌, length, get_or, set, sym, refl, ap, ◌∙◌, subst, inl, inr, arith}
+use Rattle.std.proofs.lemmas.Bool.{cases_Bool, and_parts, and_from, and_left, eqb-true, eq-eqb, both_ways, cond-true, cond-false}
 use Rattle.std.proofs.lemmas.List.{get_or-set_same, get_or-set_other, drop-set-lt, append-nil, set-get_or}
 use Rattle.floor.specs.declared.Cell.{Cell}
 use Rattle.floor.specs.declared.Heading.{Heading}
 use Rattle.floor.specs.declared.Heading.TheVariants.{North, NorthEast, East, SouthEast, South, SouthWest, West, NorthWest}
-use Rattle.floor.specs.Plane.{Point, point, number}
-use Rattle.floor.specs.Plans.{Plan, opens, is_open, marked}
-use Rattle.floor.specs.Jumps.{jump_from, jump_of}
+use Rattle.floor.specs.Plane.{Point, point}
+use Rattle.floor.specs.Plans.{opens, is_open, marked}
+use Rattle.floor.specs.Jumps.{jump_from}
+use Rattle.floor.proofs.Numbers.{number_below}
+use Rattle.floor.proofs.Cells.{cell_known}
+use Rattle.floor.proofs.Simple.{point_dec}
 use Rattle.floor.proofs.Jumps.{jump_blocked}
 use Rattle.source.specs.Labels.{label_of}
 use Rattle.source.specs.Few.{Few}
@@ -15,24 +18,8 @@ use Rattle.table.specs.Layout.{plan_of, needed, begins, Defined, Remarked}
 use Rattle.table.specs.Equations.{label_of_point, Holds, Among, Seed, Mended, Mends, seeds, straight_first, seeds_of, all_seeds}
 use Rattle.source.specs.Within.{sized_plan}
 use Rattle.table.proofs.Worked.{holds_defined, defined_holds}
-use Rattle.table.proofs.Spoiled.{heading_number, near}
-use Rattle.table.proofs.Places.{Inside, inside_from, inside_to, number_below, within_needed, apart, on_or_off, label_inside, label_kept, same_plan}
-
--- ---- labels by number and by heading
-
-pub numbered : (n : ℕ) → n < 8 → (h : Heading) × (number h ≡ n)
-numbered zero b = (North, refl)
-numbered (suc zero) b = (NorthEast, refl)
-numbered (suc (suc zero)) b = (East, refl)
-numbered (suc (suc (suc zero))) b = (SouthEast, refl)
-numbered (suc (suc (suc (suc zero)))) b = (South, refl)
-numbered (suc (suc (suc (suc (suc zero))))) b = (SouthWest, refl)
-numbered (suc (suc (suc (suc (suc (suc zero)))))) b = (West, refl)
-numbered (suc (suc (suc (suc (suc (suc (suc zero))))))) b = (NorthWest, refl)
-numbered (suc (suc (suc (suc (suc (suc (suc (suc n)))))))) b = absurd (omega arith)
-
-pub jump_numbered : (p : Plan) (c : Cell) (h : Heading) → jump_of p c (number h) ≡ jump_from p (point c) h
-jump_numbered p c h = ap (λ o. elim o as (λ _. ℕ × Bool) [ Some g ↦ jump_from p (point c) g | None ↦ (0, false) ]) (heading_number h)
+use Rattle.table.proofs.Spoiled.{near}
+use Rattle.table.proofs.Places.{Inside, inside_from, inside_to, within_needed, apart, on_or_off, label_inside, label_kept, same_plan}
 
 -- ---- the seeds of one heading are among those of all
 
@@ -72,10 +59,7 @@ module _ (m x : Point) where
   among_all NorthWest = of_last NorthWest _ (of_later NorthWest NorthEast _ (of_later NorthWest SouthEast _ (of_later NorthWest SouthWest _ (of_first NorthWest _))))
 
 cell_dec : (c d : Cell) → (c ≡ d) ⊎ (c ≡ d → ⊥)
-cell_dec c d = elim (cases_eq c.row d.row) [
-  | inr n ↦ inr (λ e. n (ap (λ (k : Cell). k.row) e))
-  | inl e ↦ elim (cases_eq c.col d.col) [ inr n ↦ inr (λ f. n (ap (λ (k : Cell). k.col) f)) | inl f ↦ inl (λ i. record { row = e i; col = f i }) ]
-]
+cell_dec c d = elim (point_dec (point c) (point d)) [ inl e ↦ inl (cell_known e) | inr n ↦ inr (λ e. n (ap point e)) ]
 
 module _ (rows cols : ℕ) (few : Few rows cols) where
   -- the labels of a defined table, off the plan too

@@ -7,7 +7,7 @@ use Rattle.floor.specs.declared.Cell.{Cell}
 use Rattle.floor.specs.declared.Heading.{Heading}
 use Rattle.floor.specs.Plane.{Point, point, number, step}
 use Rattle.floor.specs.Plans.{opens}
-use Rattle.floor.proofs.Plane.{each}
+use Rattle.floor.proofs.Numbers.{number_below}
 use Rattle.floor.proofs.Jumps.{closed_stays}
 use Rattle.source.specs.declared.extents.Size.{Size}
 use Rattle.source.proofs.Indices.{same_pair}
@@ -15,9 +15,6 @@ use Rattle.table.specs.Layout.{Placed, plan_of, needed, begins}
 use Rattle.table.specs.Equations.{dead, one_on, label_of_point, ends, due, Holds, Relabelled}
 
 -- ---- places
-
-pub number_below : (h : Heading) → number h < 8
-number_below = each (λ h. number h < 8) (omega arith) (omega arith) (omega arith) (omega arith) (omega arith) (omega arith) (omega arith) (omega arith)
 
 -- a cell inside
 pub record Inside (rows cols : ℕ) (c : Cell) : Type 0 where

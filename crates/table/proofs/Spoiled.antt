@@ -1,32 +1,20 @@
 -- Which equations a change can break: those that mention what was changed, and these lie close by.
-use Rattle.std.proofs.Common.{◌≡◌, ℕ, Bool, true, false, cond, not, ◌&&◌, ◌||◌, ◌⊎◌, List, [], ◌∷◌, Some, sym, refl, ap, ◌∙◌, subst, inl, inr, arith}
+use Rattle.std.proofs.Common.{◌≡◌, ℕ, Bool, true, false, cond, not, ◌&&◌, ◌||◌, ◌⊎◌, List, [], ◌∷◌, sym, refl, ap, ◌∙◌, subst, inl, inr, arith}
 use borrow.Author.Differences.{ints}
-use Rattle.std.proofs.lemmas.Bool.{cases_Bool, cases_eq, both_ways, not-true}
+use Rattle.std.proofs.lemmas.Bool.{cases_Bool, both_ways, not-true}
 use Rattle.floor.specs.declared.Heading.{Heading}
 use Rattle.floor.specs.declared.Heading.TheVariants.{North, NorthEast, East, SouthEast, South, SouthWest, West, NorthWest}
 use Rattle.floor.specs.declared.Side.{Side}
 use Rattle.floor.specs.declared.Side.TheVariants.{Left, Right}
-use Rattle.floor.specs.Plane.{Point, number, heading, turn, opposite, diagonal, step}
+use Rattle.floor.specs.Plane.{Point, turn, opposite, diagonal, step}
 use Rattle.floor.specs.Plans.{legal}
 use Rattle.floor.specs.Jumps.{stop, stops}
-use Rattle.floor.proofs.Plane.{each, other, both_sides, turn_forth, turn_opposite, turn_diagonal, undo, beside}
+use Rattle.floor.proofs.Plane.{other, both_sides, turn_forth, turn_opposite, turn_diagonal, undo, beside}
+use Rattle.floor.proofs.Numbers.{heading_dec}
 use Rattle.floor.proofs.Simple.{point_dec}
 use Rattle.table.specs.Equations.{dead, live, one_on, ends, due, Holds, HoldsBut, Seed, seed, Among, seeds}
 
--- ---- headings and points
-
-pub heading_number : (h : Heading) → heading (number h) ≡ Some h
-heading_number = each (λ h. heading (number h) ≡ Some h) refl refl refl refl refl refl refl refl
-
-pub number_same : (h g : Heading) → number h ≡ number g → h ≡ g
-number_same h g e =
-    let a = heading_number h in
-    let b = heading_number g in
-    let m : heading (number h) ≡ heading (number g) = ap heading e in
-    cc
-
-pub heading_dec : (h g : Heading) → (h ≡ g) ⊎ (h ≡ g → ⊥)
-heading_dec h g = elim (cases_eq (number h) (number g)) [ inl e ↦ inl (number_same h g e) | inr n ↦ inr (λ e. n (ap number e)) ]
+-- ---- points
 
 -- each step leads to another point
 pub moves : (h : Heading) (x : Point) → step h x ≡ x → ⊥

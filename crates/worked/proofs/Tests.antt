@@ -15,7 +15,7 @@ use Rattle.floor.specs.Plans.{Plan, Sized, opens, legal}
 use Rattle.floor.specs.Routes.{end, one, tally, Walk, Route}
 use Rattle.floor.specs.Jumps.{walk}
 use Rattle.floor.proofs.Plane.{each, at}
-use Rattle.floor.proofs.Steps.{found}
+use Rattle.floor.proofs.Cells.{found}
 use Rattle.floor.proofs.Legal.{legal_fair}
 use Rattle.rate.specs.Exact.{squared}
 use Rattle.listing.specs.Millimetres.{Figure}
