@@ -7,4 +7,3 @@ pub mod Bending
 pub mod Trails
 pub mod Writing
 pub mod Drawings
-pub mod Going

@@ -3,4 +3,3 @@ pub mod Answers
 pub mod Lists
 pub mod Searched
 pub mod Trail
-pub mod Going

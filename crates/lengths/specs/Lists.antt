@@ -21,6 +21,6 @@ pub record Spared (p : Plan) (old new : Work) : Type 0 where
   pub entries : drop (places p) new.entries.now ≡ drop (places p) old.entries.now
   pub waiting : drop (places p) new.waiting.now ≡ drop (places p) old.waiting.now
 
--- a call that is refused before anything is searched leaves the lists as they were
+-- Every refusal but that of no route comes before the search, so the lists stay as they were.
 abbrev pub Untouched : {A : Type 0} → Work → Work → Result A Refusal → Type 0
 Untouched old new r = IfErr r (λ e. (e ≢ NoRoute) → new ≡ old)

@@ -3,10 +3,10 @@ ghost use Rattle.std.specs.Prelude.{◌≡◌};
 ghost use Rattle.std.specs.Option.{option_map};
 ghost use Rattle.floor.specs.Plane.{point};
 ghost use Rattle.floor.specs.Places.{successor as next_of};
+ghost use Rattle.pruning.specs.Goings.{taken as taken_in};
 ghost use Rattle.search.specs.Chain.{Edges};
-ghost use Rattle.places.specs.Leaps.{leap, out, goal};
+ghost use Rattle.places.specs.Leaps.{leap, leaps, out, goal};
 ghost use Rattle.places.proofs.Sound.{sound};
-ghost use Rattle.lengths.specs.Going.{leap_if, leaps};
 ghost use Rattle.lengths.specs.Questions.{places as places_of};
 
 use crate::asking::places;
@@ -48,7 +48,7 @@ fn leap_if<S: JumpSource>(
     number: u8,
     target: Cell,
 ) -> Option<Edge>
-    ensures { result ≡ leap_if (S.JumpSource.meaning source.now) (point cell) target taken number }
+    ensures { result ≡ leaps (S.JumpSource.meaning source.now) target (point cell) (λ _. taken) number }
 {
     let heading = Heading::try_from(number).ok()?;
     if taken {
@@ -65,7 +65,7 @@ fn leaps_from<S: JumpSource>(
     taken: [bool; TURNS],
     target: Cell,
 ) -> [Option<Edge>; TURNS]
-    ensures { Edges (leaps (S.JumpSource.meaning source.now) (point cell) target taken) result }
+    ensures { Edges (leaps (S.JumpSource.meaning source.now) target (point cell) (taken_in taken)) result }
 {
     array::from_fn(|number| leap_if(source, cell, taken[number], number as u8, target))
 }

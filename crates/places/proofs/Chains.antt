@@ -46,7 +46,7 @@ module _ (p : Plan) (s t : Cell) where
       to g true None a b c d = absurd (let z : ◌≡◌ {A = ℕ} 0 1 = cc in omega arith)
       to g false o a b c d = absurd (let z : ◌≡◌ {A = ℕ} 0 1 = cc in omega arith)
 
-      by : (o : Option Heading) → heading n ≡ o → elim o as (λ _. Option Edge) [ Some g ↦ leap_in p s t q g | None ↦ None ] ≡ Some e → Leapt q n e
+      by : (o : Option Heading) → heading n ≡ o → elim o as (λ _. Option Edge) [ Some g ↦ leap_in p t (spot (stands p.cols s q)) (goes_on p (stands p.cols s q)) g | None ↦ None ] ≡ Some e → Leapt q n e
       by (Some g) a d = to g (goes_on p (stands p.cols s q) g) (successor p (point t) (spot (stands p.cols s q)) g) a refl refl d
       by None a d = absurd (let z : ◌≡◌ {A = ℕ} 0 1 = cc in omega arith)
 
@@ -96,10 +96,10 @@ module _ (p : Plan) (s t : Cell) where
       let far : successor p (point t) (spot (stands p.cols s q)) h ≡ Some k = ap (λ a. successor p (point t) (spot a) h) r.lies ∙ f in
       let e : Edge = leap p.cols (spot (stands p.cols s q)) h k in
       let w : Lands (spot (stands p.cols s q)) h k = lands (spot (stands p.cols s q)) h k far in
-      let here : leap_in p s t q h ≡ Some e =
+      let here : leap_in p t (spot (stands p.cols s q)) (goes_on p (stands p.cols s q)) h ≡ Some e =
       ap (λ b. cond b (option_map (leap p.cols (spot (stands p.cols s q)) h) (successor p (point t) (spot (stands p.cols s q)) h)) None) on ∙
       ap (λ o. option_map (leap p.cols (spot (stands p.cols s q)) h) o) far in
-      let edge : out p s t q (number h) ≡ Some e = ap (λ o. elim o as (λ _. Option Edge) [ Some j ↦ leap_in p s t q j | None ↦ None ]) (numbered h) ∙ here in
+      let edge : out p s t q (number h) ≡ Some e = ap (λ o. elim o as (λ _. Option Edge) [ Some j ↦ leap_in p t (spot (stands p.cols s q)) (goes_on p (stands p.cols s q)) j | None ↦ None ]) (numbered h) ∙ here in
       record {
         position = Place e.to;
         lies = w.there ∙ ap (λ a. place (walk h k (spot a)) h) r.lies;

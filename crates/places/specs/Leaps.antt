@@ -34,13 +34,17 @@ cell_at x = record { row = unsigned_abs x.row; col = unsigned_abs x.col }
 abbrev pub leap : ℕ → Point → Heading → ℕ → Edge
 leap cols x h k = record { to = place_number cols (cell_at (walk h k x)) h; counts = many h k }
 
--- the leap out of a position in a heading: to the successor, if the position goes on so and has one
-abbrev pub leap_in : Plan → Cell → Cell → Position → Heading → Option Edge
-leap_in p s t q h = cond (goes_on p (stands p.cols s q) h) (option_map (leap p.cols (spot (stands p.cols s q)) h) (successor p (point t) (spot (stands p.cols s q)) h)) None
+-- the leap out of a point in a heading: to the successor, if that is a heading to go on in and has one
+abbrev pub leap_in : Plan → Cell → Point → (Heading → Bool) → Heading → Option Edge
+leap_in p t x on h = cond (on h) (option_map (leap p.cols x h) (successor p (point t) x h)) None
 
--- an edge for each heading's number
+-- the leaps out of a point in the headings to go on in, by the numbers of these
+abbrev pub leaps : Plan → Cell → Point → (Heading → Bool) → ℕ → Option Edge
+leaps p t x on n = elim (heading n) [ Some h ↦ leap_in p t x on h | None ↦ None ]
+
+-- the edges out of a position: the leaps in the headings in which it goes on
 abbrev pub out : Plan → Cell → Cell → Position → ℕ → Option Edge
-out p s t q n = elim (heading n) [ Some h ↦ leap_in p s t q h | None ↦ None ]
+out p s t q = leaps p t (spot (stands p.cols s q)) (goes_on p (stands p.cols s q))
 
 abbrev pub same_cell : Cell → Cell → Bool
 same_cell a b = a.row == b.row && a.col == b.col
