@@ -1,16 +1,12 @@
 -- What a copy of a line shows: the line's own words, and closed places where these end and outside.
 use Rattle.std.proofs.Common.{◌≡◌, ℕ, zero, suc, ◌+◌, ◌-◌, ◌*◌, ◌/◌, ◌%◌, ◌^◌, ◌<◌, ◌≤◌, true, false, cond, ◌&&◌, ltb, List, [], ◌∷◌, get_or, sym, refl, ap, ◌∙◌, inl, inr, arith}
-use Rattle.std.proofs.lemmas.Nat.{mul-add-lt, mul-le}
+use Rattle.std.proofs.lemmas.Nat.{mul-le}
 use Rattle.std.proofs.lemmas.Bool.{cases_lt, and_from, and_left, and_right, lt-ltb, le-ltb}
 use Rattle.packed.specs.declared.halves.Half.{Half}
 use Rattle.packed.specs.Bits.{bit}
 use Rattle.packed.specs.Layout.{line_words, word_of, shut}
 use Rattle.packed.specs.Scans.{seen, line_at}
 use Rattle.packed.proofs.Digits.{bit_all}
-
--- the words of a line lie in its half
-pub line_in : (h : Half) (l j : ℕ) → l < h.lines → j < line_words h.long → word_of h l 0 + j < h.from + h.lines * line_words h.long
-line_in h l j p q = omega (arith, mul-add-lt l (line_words h.long) j h.lines p q)
 
 -- a line's first word lies at most where its half ends
 pub line_begins : (h : Half) (l : ℕ) → l < h.lines → word_of h l 0 ≤ h.from + h.lines * line_words h.long

@@ -173,9 +173,6 @@ module _ (lines : Lines) (way : Way) (at : ℕ) (at< : at < 128) where
       in_no_word e i s p = clear_own i (last_word way at at< e i s p) p (own (i % 64) (omega arith))
 
       module _ (far v : ℕ) (e : Some far ≡ next_word way (at / 64)) (tells' : Tells far v) where
-        pub far_small : far < 2
-        far_small = (ahead way at far at< e).small
-
         pub in_other : (f : ℕ) → f < 64 → bit v f ≡ true → ((i : ℕ) → i < 64 → sooner way i f ≡ true → bit v i ≡ false) → First lines at way (64 * far + f)
         in_other f l is none =
             let a = ahead way at far at< e in

@@ -1,6 +1,6 @@
 -- The graph of leaps is sound: its edges fit, and every chain to the target has one of few steps that is never dearer.
 -- A chain is a route; the route is cut down to distinct cells; and a chain dominates what is left.
-use Rattle.std.proofs.Common.{◌≡◌, ℕ, ◌*◌, ◌<◌, ◌≤◌, true, false, not, Some, sym, refl, ap, ◌∙◌, subst, arith}
+use Rattle.std.proofs.Common.{◌≡◌, ℕ, ◌*◌, ◌≤◌, true, false, not, Some, sym, refl, ap, ◌∙◌, subst, arith}
 use Rattle.std.proofs.lemmas.Nat.{mul-le}
 use Rattle.std.proofs.lemmas.Bool.{both_ways, and_parts, and_from, not-true}
 use Rattle.floor.specs.declared.Cell.{Cell}
@@ -11,7 +11,6 @@ use Rattle.floor.specs.Plane.{Point, point}
 use Rattle.floor.specs.Plans.{Plan, Sized, opens, legal}
 use Rattle.floor.specs.Routes.{Laid, Route}
 use Rattle.floor.specs.Facts.{Simple}
-use Rattle.floor.specs.Jumps.{walk}
 use Rattle.floor.specs.Places.{start, place, spot, place_number, many, successor, begin}
 use Rattle.floor.specs.Places as floor
 use Rattle.floor.proofs.Legal.{legal_fair}
@@ -27,7 +26,7 @@ use Rattle.search.specs.declared.graph.Position.TheVariants.{Start, Place}
 use Rattle.search.specs.declared.graph.Edge.{Edge}
 use Rattle.search.specs.Chain as search
 use Rattle.search.specs.Chain.{most, NeverDearer, Short, Fits, Sound}
-use Rattle.places.specs.Leaps.{cell_of, heading_of, stands, cell_at, out, same_cell, goal}
+use Rattle.places.specs.Leaps.{cell_of, heading_of, stands, out, same_cell, goal}
 use Rattle.places.proofs.Numbers.{same_cell_is, same_cell_from}
 use Rattle.places.proofs.Chains.{Leapt, leapt, Lands, lands, to_floor, Numbered, from_floor}
 
@@ -108,11 +107,3 @@ module _ (p : Plan) (z : Sized p) (s t : Cell) where
     fits = edge_fits;
     short = short;
   }
-
-  -- the place at the end of a leap has a small number
-  pub small_number : (c d : Cell) (h : Heading) (k : ℕ) → successor p (point t) (point c) h ≡ Some k → point d ≡ walk h k (point c) → place_number p.cols d h < 4294967296
-  small_number c d h k e there =
-      let w : Lands p s t (point c) h k = lands p s t (point c) h k e in
-      let m = mul-le p.rows p.cols 128 128 z.few_rows z.few_cols in
-      let f : place_number p.cols (cell_at (walk h k (point c))) h < 8 * (p.rows * p.cols) = w.fits in
-      subst (λ (x : Cell). place_number p.cols x h < 4294967296) (sym (ap cell_at there)) (omega arith)

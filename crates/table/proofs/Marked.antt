@@ -1,7 +1,7 @@
 -- A mark, from the defined table before it to the defined table after: the open number is written, the seeds are walked from, and then every equation holds again.
 use Rattle.std.proofs.Common.{◌≡◌, ℕ, zero, suc, ◌+◌, ◌*◌, ◌<◌, ◌≤◌, Bool, true, false, cond, ◌&&◌, eqb, ltb, ◌≢◌, ◌⊎◌, List, [], ◌∷◌, ◌++◌, length, get_or, set, sym, refl, ap, ◌∙◌, subst, inl, inr, arith}
 use Rattle.std.proofs.lemmas.Bool.{cases_Bool, and_parts, and_from, and_left, eqb-true, eq-eqb, both_ways, cond-true, cond-false}
-use Rattle.std.proofs.lemmas.List.{get_or-set_same, get_or-set_other, drop-set-lt, append-nil, set-get_or}
+use Rattle.std.proofs.lemmas.List.{get_or-set_same, get_or-set_other, drop-set-lt, append-nil}
 use Rattle.floor.specs.declared.Cell.{Cell}
 use Rattle.floor.specs.declared.Heading.{Heading}
 use Rattle.floor.specs.declared.Heading.TheVariants.{North, NorthEast, East, SouthEast, South, SouthWest, West, NorthWest}
@@ -181,9 +181,3 @@ module _ (rows cols : ℕ) (few : Few rows cols) where
           (m.leaves [] (subst (Mended rows cols after) (sym (append-nil (all_seeds (point c)))) (broken d)));
       rest = m.kept.rest ∙ drop-set-lt (needed rows cols) a (begins cols c + 8) (cond b 1 0) (within_needed rows cols c 8 i (omega arith));
     }
-
-    -- a mark that changes nothing
-    pub unmarked : Defined (plan_of rows cols a) a → get_or a (begins cols c + 8) 0 ≡ cond b 1 0 → Remarked rows cols a c b a
-    unmarked d e =
-        let same : after ≡ a = ap (set a (begins cols c + 8)) (sym e) ∙ set-get_or a (begins cols c + 8) 0 in
-        record { plan = sym (ap (plan_of rows cols) same) ∙ plan_marked; defined = d; rest = refl }

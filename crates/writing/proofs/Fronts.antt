@@ -61,10 +61,6 @@ module _ {X : Type 0} where
       let none : 0 + length piece ≡ length piece = omega arith in
       (w.list ∙ ap (λ (k : ℕ). piece ++ drop k before) none, w.on ∙ none)
 
-  -- what was written over the front is no longer than the list
-  pub no_longer : (before piece after : List X) → after ≡ over piece before → length piece ≤ length after
-  no_longer before piece after e = let whole = ap length e ∙ length-append piece (drop (length piece) before) in omega arith
-
 -- Of a text that is to be written after the start, this part is left: it fits, and with it the whole is written.
 pub record Left {X : Type 0} (start : Front X) (whole : List X) (now : Front X) (left : List X) : Type 0 where
   pub fits : Fits now left
