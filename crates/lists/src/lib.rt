@@ -1,7 +1,8 @@
 // The work lists that a planner is lent, owned: for callers that have memory of their own. The planner and what lies under it allocate nothing.
 #![tactic(auto)]
 
-ghost use Rattle.std.specs.Prelude.{◌≡◌, length, IfOk, vec_items};
+ghost use Rattle.std.specs.Prelude.{◌≡◌, length, replicate, IfOk, vec_items};
+ghost use Rattle.search.specs.Mark.{blank};
 ghost use Rattle.lists.specs.Lengths.{room_of};
 
 use lengths::Room;
@@ -20,9 +21,10 @@ pub struct Lists {
 }
 
 impl Lists {
-    // Lists of these lengths, if there is memory for them.
+    // Lists of these lengths, if there is memory for them. No entry holds anything of a search.
     pub fn new(heap: Global, room: Room) -> Result<Lists, AllocError>
-        ensures { IfOk result (λ lists. room_of lists ≡ room) }
+        ensures room { IfOk result (λ lists. room_of lists ≡ room) }
+        ensures blank { IfOk result (λ lists. vec_items lists.entries ≡ replicate room.entries blank) }
     {
         Ok(Lists {
             entries: vec![in heap; Entry::BLANK; room.entries]?,
@@ -30,10 +32,12 @@ impl Lists {
         })
     }
 
-    // The lists, lent for a call.
+    // The lists with what they hold, lent for a call.
     pub fn work(&mut self) -> Work<'_>
-        ensures entries { length result.entries.now ≡ (room_of self.old).entries }
-        ensures waiting { length result.waiting.now ≡ (room_of self.old).waiting }
+        ensures entries { result.entries.now ≡ vec_items self.old.entries }
+        ensures waiting { result.waiting.now ≡ vec_items self.old.waiting }
+        ensures places { length result.entries.now ≡ (room_of self.old).entries }
+        ensures room { length result.waiting.now ≡ (room_of self.old).waiting }
     {
         Work {
             entries: self.entries.as_mut_slice(),
