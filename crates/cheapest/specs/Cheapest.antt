@@ -29,6 +29,7 @@ abbrev pub legs : List Cell → List Leg
 legs [] = []
 legs (panel ∷ cells) = onward panel panel cells
 
+-- the counts of all legs together
 abbrev pub total : List Counts → Counts
 total [] = none
 total (n ∷ ns) = plus n (total ns)

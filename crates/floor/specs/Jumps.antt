@@ -17,6 +17,7 @@ module _ (free : Point → Bool) where
   unfoldable pub stop : Point → Heading → Side → Bool
   stop x h s = not (free (step (turn s (turn s h)) x)) && free (step (turn s (turn s h)) (step h x))
 
+  -- on one side or the other
   abbrev pub stops : Point → Heading → Bool
   stops x h = stop x h Left || stop x h Right
 
@@ -36,6 +37,7 @@ module _ (free : Point → Bool) where
   abbrev pub DiagonalJump : Heading → Point → ℕ → Bool → Type 0
   DiagonalJump h = Run (λ x. (s : Side) × (k : ℕ) × StraightJump (turn s h) (step h x) k true) h
 
+  -- a jump, straight or diagonal as its heading is
   pub record Jump (h : Heading) (x : Point) (k : ℕ) (live : Bool) : Type 0 where
     pub straight : diagonal h ≡ false → StraightJump h x k live
     pub slanted : diagonal h ≡ true → DiagonalJump h x k live

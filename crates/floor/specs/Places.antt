@@ -15,6 +15,7 @@ pub data Position : Type 0 where
   start : Point → Position
   place : Point → Heading → Position
 
+-- the point at which a position lies
 abbrev pub spot : Position → Point
 spot (start x) = x
 spot (place x h) = x
@@ -23,6 +24,7 @@ spot (place x h) = x
 abbrev pub place_number : ℕ → Cell → Heading → ℕ
 place_number cols c h = 8 * (c.row * cols + c.col) + number h
 
+-- whether two whole numbers are one
 abbrev pub same_int : ℤ → ℤ → Bool
 same_int (pos m) (pos n) = m == n
 same_int (negsuc m) (negsuc n) = m == n

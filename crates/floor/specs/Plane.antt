@@ -6,6 +6,7 @@ use Rattle.floor.specs.declared.Heading.TheVariants.{North, NorthEast, East, Sou
 use Rattle.floor.specs.declared.Side.{Side}
 use Rattle.floor.specs.declared.Side.TheVariants.{Left, Right}
 
+-- a point by its row and column, which may be negative
 pub record Point : Type 0 where
   pub row : ℤ
   pub col : ℤ
@@ -31,6 +32,7 @@ heading n =
     cond (n == 0) (Some North) (cond (n == 1) (Some NorthEast) (cond (n == 2) (Some East) (cond (n == 3) (Some SouthEast)
     (cond (n == 4) (Some South) (cond (n == 5) (Some SouthWest) (cond (n == 6) (Some West) (cond (n == 7) (Some NorthWest) None)))))))
 
+-- whether two headings are one
 abbrev pub same : Heading → Heading → Bool
 same h g = number h == number g
 
@@ -53,6 +55,7 @@ turn Left SouthWest = South
 turn Left West = SouthWest
 turn Left NorthWest = West
 
+-- the heading four turns on
 abbrev pub opposite : Heading → Heading
 opposite h = turn Left (turn Left (turn Left (turn Left h)))
 
@@ -89,5 +92,6 @@ across SouthWest = negsuc 0
 across West = negsuc 0
 across NorthWest = negsuc 0
 
+-- the point one step on
 unfoldable pub step : Heading → Point → Point
 step h x = record { row = x.row +ℤ down h; col = x.col +ℤ across h }

@@ -11,7 +11,7 @@ pub record Plan : Type 0 where
   pub cols : ℕ
   pub free : ℕ → ℕ → Bool
 
--- 1 to 128 rows and as many columns, or none of either; and nothing outside is marked open
+-- 1 to 128 rows and 1 to 128 columns, or none of either; and nothing outside is marked open
 pub record Sized (p : Plan) : Type 0 where
   pub few_rows : p.rows ≤ 128
   pub few_cols : p.cols ≤ 128
@@ -19,6 +19,7 @@ pub record Sized (p : Plan) : Type 0 where
   pub no_cols : p.cols ≡ 0 → p.rows ≡ 0
   pub bounded : (r c : ℕ) → (nat_lt r p.rows && nat_lt c p.cols) ≡ false → p.free r c ≡ false
 
+-- whether a cell lies inside
 abbrev pub inside : Plan → Cell → Bool
 inside p c = nat_lt c.row p.rows && nat_lt c.col p.cols
 

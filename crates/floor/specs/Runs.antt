@@ -32,6 +32,7 @@ abbrev pub TurnsFrom : Heading → List Stretch → Type 0
 TurnsFrom h [] = Unit {0}
 TurnsFrom h (r ∷ rs) = (same h r.heading ≡ false) × (1 ≤ r.steps) × TurnsFrom r.heading rs
 
+-- each run has a step at least, and another heading than the one before it
 abbrev pub Turning : List Stretch → Type 0
 Turning [] = Unit {0}
 Turning (r ∷ rs) = (1 ≤ r.steps) × TurnsFrom r.heading rs

@@ -6,6 +6,7 @@ use Rattle.floor.specs.declared.Counts.{Counts}
 abbrev pub counts : ℕ → ℕ → Counts
 counts a b = record { straight = a; diagonal = b }
 
+-- no steps
 abbrev pub none : Counts
 none = counts 0 0
 

@@ -32,6 +32,7 @@ pub data Told : Type 0 where
 pub record State : Type 0 where
   pub plan : Plan
 
+-- before any call: no cell is open
 abbrev pub fresh : ℕ → ℕ → State
 fresh rows cols = record { plan = closed rows cols }
 
@@ -43,10 +44,12 @@ next s (a_length a b w v) = s
 next s (a_route a b w v c) = s
 next s (a_loop cs w v l) = s
 
+-- what the calls of a list leave, one after another
 abbrev pub after_all : State → List Asked → State
 after_all s [] = s
 after_all s (a ∷ more) = after_all (next s a) more
 
+-- an open or a close is answered whether it changed the cell
 abbrev pub Changed : Plan → Cell → Bool → Told → Type 0
 Changed p c b (changed r) = r ≡ mark_answer p c b
 Changed p c b (cost r) = ⊥
@@ -54,12 +57,14 @@ Changed p c b (drawn r cs) = ⊥
 Changed p c b (toured r ns) = ⊥
 
 module _ (order : Counts → Counts → Comparison) (may : Laying) where
+  -- a length
   abbrev pub Costed : Plan → Cell → Cell → ℕ → ℕ → Told → Type 0
   Costed p s t w v (changed r) = ⊥
   Costed p s t w v (cost r) = LengthTold order may p s t w v r
   Costed p s t w v (drawn r cs) = ⊥
   Costed p s t w v (toured r ns) = ⊥
 
+  -- a route
   abbrev pub Drawn : Plan → Cell → Cell → ℕ → ℕ → ℕ → Told → Type 0
   Drawn p s t w v c (changed r) = ⊥
   Drawn p s t w v c (cost r) = ⊥
@@ -90,6 +95,7 @@ module _ (order : Counts → Counts → Comparison) where
   SameCost (Err e) (Ok m) = ⊥
   SameCost (Err e) (Err f) = e ≡ f
 
+  -- as many legs, each of which costs the same as the other
   abbrev pub SameLegs : List Counts → List Counts → Type 0
   SameLegs [] [] = Unit {0}
   SameLegs [] (m ∷ ms) = ⊥

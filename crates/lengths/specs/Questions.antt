@@ -23,6 +23,7 @@ pub record Question (A : Type 0) : Type 0 where
 abbrev pub ask : {A : Type 0} → Bool → A → Question A
 ask b e = record { yes_to = b; else = e }
 
+-- the refusal of the first question that is answered no, if there is one
 abbrev pub first_no : {A : Type 0} → List (Question A) → Option A
 first_no [] = None
 first_no (q ∷ qs) = cond q.yes_to (first_no qs) (Some q.else)

@@ -1,5 +1,5 @@
 // The corners of a cheapest route, from the entries that a search leaves.
-ghost use Rattle.std.specs.Prelude.{◌≡◌, ℕ, ◌+◌, ◌<◌, ◌≤◌, not, List, [], ◌∷◌, ◌++◌, length, take, drop};
+ghost use Rattle.std.specs.Prelude.{◌≡◌, ◌+◌, ◌<◌, ◌≤◌, not, List, [], ◌∷◌, ◌++◌, length, take, drop};
 ghost use Rattle.floor.specs.declared.Cell.{Cell as Spot};
 ghost use Rattle.floor.specs.Plane.{same};
 ghost use Rattle.search.specs.Mark.{marks};

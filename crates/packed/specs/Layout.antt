@@ -19,6 +19,7 @@ by_rows rows cols = record { from = 0; lines = rows; long = cols }
 abbrev pub by_cols : ℕ → ℕ → Half
 by_cols rows cols = record { from = rows * line_words cols; lines = cols; long = rows }
 
+-- how many words a plan takes
 abbrev pub words_needed : ℕ → ℕ → ℕ
 words_needed rows cols = rows * line_words cols + cols * line_words rows
 

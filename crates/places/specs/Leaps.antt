@@ -46,6 +46,7 @@ leaps p t x on n = elim (heading n) [ Some h ↦ leap_in p t x on h | None ↦ N
 abbrev pub out : Plan → Cell → Cell → Position → ℕ → Option Edge
 out p s t q = leaps p t (spot (stands p.cols s q)) (goes_on p (stands p.cols s q))
 
+-- whether two cells are one
 abbrev pub same_cell : Cell → Cell → Bool
 same_cell a b = a.row == b.row && a.col == b.col
 

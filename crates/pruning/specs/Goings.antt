@@ -5,6 +5,7 @@ use Rattle.floor.specs.Plane.{number}
 use Rattle.floor.specs.Plans.{Plan}
 use Rattle.floor.specs.Places.{Position, goes_on}
 
+-- whether a heading is marked
 abbrev pub taken : List Bool → Heading → Bool
 taken on g = slice_index_or on (number g) false
 

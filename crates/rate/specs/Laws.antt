@@ -21,6 +21,7 @@ at_least Dearer = true
 abbrev pub limit : ℕ
 limit = 1048576
 
+-- neither count lies above it
 abbrev pub Within : Counts → Type 0
 Within x = (x.straight ≤ limit) × (x.diagonal ≤ limit)
 

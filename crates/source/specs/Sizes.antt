@@ -11,7 +11,7 @@ abbrev pub size_number : SizeRefusal → ℕ
 size_number Extent = 10
 size_number Memory = 11
 
--- 1 to 128 rows and as many columns
+-- 1 to 128 rows and 1 to 128 columns
 abbrev pub within_limits : ℕ → ℕ → Bool
 within_limits rows cols = (nat_le 1 rows && nat_le rows 128) && (nat_le 1 cols && nat_le cols 128)
 
