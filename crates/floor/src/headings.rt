@@ -57,7 +57,7 @@ impl Heading {
         }
     }
 
-    // Kept: by a table of the headings, which also serves `right` and `opposite`, jumps on bytes take 1.29 times as many instructions.
+    // Kept: by a table of the headings, which also serves `right` and `opposite`, a jump that turned at each step took 1.29 times as many instructions.
     fn left(self) -> Heading
         ensures { result ≡ turn Left self }
     {

@@ -10,7 +10,7 @@ use Rattle.floor.specs.Plane.{point, turn, diagonal, step}
 use Rattle.floor.specs.Plans.{Plan, opens, is_open, legal}
 use Rattle.floor.proofs.Plane.{beside_straight, beside_diagonal}
 use Rattle.floor.proofs.Jumps.{straight_mark}
-use Rattle.floor.proofs.Steps.{found}
+use Rattle.floor.proofs.Cells.{found}
 use Rattle.source.specs.Few.{Few}
 use Rattle.source.specs.Ground.{side_opens, straight_from}
 use Rattle.source.proofs.Walks.{Along, is_legal, no_end, stops_by, goes_on, ends_live, ends_dead}
