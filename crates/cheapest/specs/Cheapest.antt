@@ -1,4 +1,4 @@
--- What the product is sold on: a route than which no other is cheaper, and the same for a whole loop.
+-- Cheapest routes: a route than which no other with the same ends is cheaper, the legs of a loop, and each leg by such a route.
 use Rattle.std.specs.Prelude.{List, [], ◌∷◌}
 use Rattle.floor.specs.declared.Cell.{Cell}
 use Rattle.floor.specs.declared.Counts.{Counts}

@@ -18,6 +18,7 @@ pub record Simple (may : Laying) (p : Plan) (s t : Point) (n : Counts) : Type 0 
   pub diagonals : counts.diagonal ≤ n.diagonal
   pub few : steps counts < p.rows * p.cols
 
+-- What is made of a route stays a route: two joined, one turned round, one on a plan with more open cells, and one cut short.
 pub record RoutesKeep (may : Laying) : Type 0 where
   -- a route to m and a route on from m are a route, with the counts of both
   pub join : (p : Plan) (s m t : Point) (a b : Counts) → Laid may (opens p) s m a → Laid may (opens p) m t b → Laid may (opens p) s t (plus a b)

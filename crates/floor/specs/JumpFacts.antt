@@ -10,6 +10,7 @@ pub record OneAnswer (p : Plan) (x : Point) (h : Heading) : Type 0 where
   pub is_jump : Jump (opens p) h x (jump_from p x h).0 (jump_from p x h).1
   pub only : (k : ℕ) (live : Bool) → Jump (opens p) h x k live → (k ≡ (jump_from p x h).0) × (live ≡ (jump_from p x h).1)
 
+-- on every heading from every point there is a jump, and only one
 abbrev pub EveryJumpHasOneAnswer : Type 0
 EveryJumpHasOneAnswer = (p : Plan) (x : Point) (h : Heading) → OneAnswer p x h
 
@@ -17,6 +18,7 @@ EveryJumpHasOneAnswer = (p : Plan) (x : Point) (h : Heading) → OneAnswer p x h
 abbrev pub ClosedCellsStay : Type 0
 ClosedCellsStay = (p : Plan) (x : Point) (h : Heading) → opens p x ≡ false → jump_from p x h ≡ (0, false)
 
+-- every step of a jump is legal
 abbrev pub JumpsTakeLegalSteps : Type 0
 JumpsTakeLegalSteps = (p : Plan) (x : Point) (h : Heading) (i : ℕ) → i < (jump_from p x h).0 → legal (opens p) (walk h i x) h ≡ true
 

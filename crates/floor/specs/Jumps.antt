@@ -49,12 +49,15 @@ module _ (free : Point → Bool) where
 
   -- n is at least as long as any run of legal steps
   module _ (n : ℕ) where
+    -- the steps of the straight jump, and whether it is live
     abbrev pub straight_jump : Heading → Point → ℕ × Bool
     straight_jump h x = scan (λ y. stops y h) h n x
 
+    -- the same of the diagonal jump, which stops where a straight jump of a heading next to it is live
     abbrev pub diagonal_jump : Heading → Point → ℕ × Bool
     diagonal_jump h x = scan (λ y. (straight_jump (turn Left h) (step h y)).1 || (straight_jump (turn Right h) (step h y)).1) h n x
 
+    -- the one or the other, as the heading is
     abbrev pub jump : Heading → Point → ℕ × Bool
     jump h x = cond (diagonal h) (diagonal_jump h x) (straight_jump h x)
 

@@ -30,9 +30,11 @@ open_at p (pos r) (negsuc c) = false
 open_at p (negsuc r) (pos c) = false
 open_at p (negsuc r) (negsuc c) = false
 
+-- whether a point is an open cell
 abbrev pub opens : Plan → Point → Bool
 opens p x = open_at p x.row x.col
 
+-- whether a cell is open
 abbrev pub is_open : Plan → Cell → Bool
 is_open p c = opens p (point c)
 

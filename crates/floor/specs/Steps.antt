@@ -28,8 +28,8 @@ abbrev pub shifted : ℤ → ℕ → ℤ → ℤ
 shifted d zero z = z
 shifted d (suc k) z = shifted d k (z +ℤ d)
 
--- After how many steps, one at least, a row or a column that is shifted comes to another. Of a shift that stays the answer can only be None:
--- the clause of Some cannot hold there, since no other number of steps may lead to the same, and none at all does; that of None says nothing of it.
+-- The one number of steps, at least 1, that leads a row or a column from one number to another, or None where no number of steps does.
+-- For a shift that stays the answer is always None: it leads nowhere else, and to where it is after any number of steps, so that none is the one.
 abbrev pub Meets : Shift → ℕ → ℕ → Option ℕ → Type 0
 Meets s from to (Some k) = (1 ≤ k) × (shifted (by s) k (pos from) ≡ pos to) × ((i : ℕ) → shifted (by s) i (pos from) ≡ pos to → i ≡ k)
 Meets s from to None = (s ≢ Same) → (i : ℕ) → 1 ≤ i → shifted (by s) i (pos from) ≢ pos to

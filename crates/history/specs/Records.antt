@@ -10,6 +10,7 @@ use Rattle.history.specs.declared.calls.Answer.{Answer}
 use Rattle.history.specs.declared.calls.Answer.TheVariants as answer
 use Rattle.history.specs.Calls.{Asked, to_open, to_close, a_length, a_route, a_loop, Told, changed, cost, drawn, toured}
 
+-- what a recorded call asks
 abbrev pub asked : Call → Asked
 asked (call.Open c) = to_open c
 asked (call.Close c) = to_close c
@@ -17,15 +18,18 @@ asked (call.Length s t r) = a_length s t r.entries r.waiting
 asked (call.Route s t r c) = a_route s t r.entries r.waiting c
 asked (call.Loop cs r l) = a_loop (vec_items cs) r.entries r.waiting l
 
+-- what a recorded answer tells
 abbrev pub told : Answer → Told
 told (answer.Changed r) = changed r
 told (answer.Length r) = cost (costs r)
 told (answer.Route r cs) = drawn (drawn_costs r) (vec_items cs)
 told (answer.Loop r ns) = toured r (vec_items ns)
 
+-- what the calls of a list ask, one after another
 abbrev pub all_asked : List Call → List Asked
 all_asked calls = map asked calls
 
+-- what the answers of a list tell, one after another
 abbrev pub all_told : List Answer → List Told
 all_told answers = map told answers
 

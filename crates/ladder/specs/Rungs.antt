@@ -16,6 +16,7 @@ abbrev pub next : Position → ℕ
 next Start = 0
 next (Place k) = k + 1
 
+-- the edge to a rung, with these straight and diagonal steps
 abbrev pub edge : ℕ → ℕ → ℕ → Edge
 edge k a b = record { to = k; counts = counts a b }
 

@@ -20,6 +20,7 @@ pub record Question (A : Type 0) : Type 0 where
   pub yes_to : Bool
   pub else : A
 
+-- a question of this answer, with what is refused where it is no
 abbrev pub ask : {A : Type 0} → Bool → A → Question A
 ask b e = record { yes_to = b; else = e }
 

@@ -12,6 +12,7 @@ use Rattle.places.specs.Leaps.{cell_of, heading_of}
 abbrev pub bend : ℕ → ℕ → ℕ → List Cell → List Cell
 bend cols j k cs = cond (same (heading_of j) (heading_of k)) cs (cs ++ cell_of cols j ∷ [])
 
+-- A place reached from the start has the start alone; one reached from another place has what that one has, and its cell too where the way bends there.
 pub data Trail (cols : ℕ) (s : Cell) (marks : ℕ → Mark) : ℕ → List Cell → Type 0 where
   direct : {k : ℕ} (r : Reached) → marks k ≡ Done r → r.from ≡ Start → Trail cols s marks k (s ∷ [])
   onward : {k : ℕ} (j : ℕ) (r : Reached) (cs : List Cell) → marks k ≡ Done r → r.from ≡ Place j → Trail cols s marks j cs → Trail cols s marks k (bend cols j k cs)

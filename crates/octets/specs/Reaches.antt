@@ -13,6 +13,7 @@ abbrev pub moved : Stride → ℕ → ℕ
 moved (On k) i = i + k
 moved (Back k) i = i - k
 
+-- a stride on leads to an index of 64 bits, a stride back to none below 0
 abbrev pub CanMove : Stride → ℕ → Type 0
 CanMove (On k) i = i + k < 2 ^ 64
 CanMove (Back k) i = k ≤ i

@@ -16,6 +16,7 @@ pub record Linked (p : Plan) (s t : Point) (n : Counts) : Type 0 where
   pub arrives : spot last ≡ t
   pub chain : Chain p s t last n
 
+-- the same from one cell to another
 abbrev pub Chained : Plan → Cell → Cell → Counts → Type 0
 Chained p s t n = Linked p (point s) (point t) n
 
@@ -40,6 +41,7 @@ pub record LegalLeap (p : Plan) (x : Point) (h : Heading) (k : ℕ) : Type 0 whe
   pub short : Sized p → k < 128
   pub route : Laid legal (opens p) x (walk h k x) (many h k)
 
+-- Every successor lies at the end of a legal leap.
 abbrev pub SuccessorsAreLeaps : Type 0
 SuccessorsAreLeaps = (p : Plan) (t x : Point) (h : Heading) (k : ℕ) → successor p t x h ≡ Some k → LegalLeap p x h k
 
@@ -51,5 +53,6 @@ pub record Stands (p : Plan) (x : Point) (n : Counts) : Type 0 where
   pub is_free : is_open p cell ≡ true
   pub some : 1 ≤ steps n
 
+-- Every chain that has left the start stands so.
 abbrev pub ChainsStandOnOpenCells : Type 0
 ChainsStandOnOpenCells = (p : Plan) (s t x : Point) (h : Heading) (n : Counts) → Chain p s t (place x h) n → Stands p x n

@@ -39,5 +39,6 @@ fault_of (refusal.Listing e) = call_fault origin.Listing (listing_number e) (lis
 unfoldable pub fault_line : Fault → List ℕ
 fault_line f = fault_text f ++ 10 ∷ []
 
+-- a refusal as it is printed, by its figures
 abbrev pub refusal_text : Refusal → List ℕ
 refusal_text e = fault_line (fault_of e)

@@ -60,6 +60,7 @@ abbrev pub QuotedAs : List ℕ → List ℕ → Outcome → List Entry → Optio
 QuotedAs before after q es (Some e) = Refused before after q (Sheet e)
 QuotedAs before after q es None = QuotedLoop before after q es
 
+-- the same by a reading, which is of entries and maybe a refusal
 abbrev pub QuotedReading : List ℕ → List ℕ → Outcome → Reading → Type 0
 QuotedReading before after q r = QuotedAs before after q r.meant r.fault
 

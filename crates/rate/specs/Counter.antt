@@ -5,8 +5,10 @@ use Rattle.rate.specs.declared.Comparison.{Comparison}
 use Rattle.rate.specs.Laws.{capped}
 use Rattle.rate.specs.Exact.{compared}
 
+-- what counts cost at the counter rate
 abbrev pub price : Counts → ℕ
 price x = 5 * x.straight + 7 * x.diagonal
 
+-- the counter rate compares prices, and a count above the limit as the limit
 abbrev pub counter : Counts → Counts → Comparison
 counter x y = compared (price (capped x)) (price (capped y))

@@ -21,6 +21,7 @@ module _ (order : Counts → Counts → Comparison) where
   abbrev pub LessThan : Counts → Counts → Type 0
   LessThan x y = order x y ≡ Cheaper
 
+  -- What follows from the laws for one rate.
   pub record Facts : Type 0 where
     -- counts cost the same as themselves
     pub itself : (x : Counts) → order x x ≡ Same

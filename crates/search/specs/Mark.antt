@@ -9,6 +9,7 @@ use Rattle.search.specs.declared.entry.State.TheVariants.{Unseen, Waiting, Finis
 use Rattle.search.specs.declared.entry.Reached.{Reached}
 use Rattle.search.specs.declared.entry.Entry.{Entry}
 
+-- reached with these counts, from this position
 abbrev pub reached : Counts → Position → Reached
 reached c p = record { counts = c; from = p }
 
@@ -22,11 +23,13 @@ pub data Mark : Type 0 where
 abbrev pub way : Entry → Reached
 way e = reached (counts e.straight e.diagonal) (cond e.direct Start (Place e.from))
 
+-- what a state says of a place that is reached so
 abbrev pub marked : State → Reached → Mark
 marked Unseen r = Unmet
 marked Waiting r = Waits r
 marked Finished r = Done r
 
+-- what an entry says of its place
 abbrev pub mark : Entry → Mark
 mark e = marked e.state (way e)
 
@@ -34,10 +37,12 @@ mark e = marked e.state (way e)
 abbrev pub blank : Entry
 blank = record { straight = 0; diagonal = 0; from = 0; slot = 0; state = Unseen; direct = false }
 
+-- whether a position is the start
 abbrev pub is_start : Position → Bool
 is_start Start = true
 is_start (Place k) = false
 
+-- the number of a place, and 0 for the start
 abbrev pub number_of : Position → ℕ
 number_of Start = 0
 number_of (Place k) = k
@@ -50,14 +55,17 @@ waiting_by r = record { straight = r.counts.straight; diagonal = r.counts.diagon
 unfoldable pub marks : List Entry → ℕ → Mark
 marks es k = mark (slice_index_or es k blank)
 
+-- where in the heap the entries say that the places stand
 unfoldable pub slots : List Entry → ℕ → ℕ
 slots es k = (get_or es k blank).slot
 
+-- whether a place waits
 abbrev pub is_waiting : Mark → Bool
 is_waiting Unmet = false
 is_waiting (Waits r) = true
 is_waiting (Done r) = false
 
+-- whether a place is done
 abbrev pub is_done : Mark → Bool
 is_done Unmet = false
 is_done (Waits r) = false

@@ -27,6 +27,7 @@ waiter_of s p = waiter p (key (s p))
 abbrev pub counts_of : Waiter → Counts
 counts_of a = counts a.straight a.diagonal
 
+-- the cheaper goes first, and of two that cost the same the lower
 abbrev pub tie_broken : Comparison → Bool → Bool
 tie_broken Cheaper lower = true
 tie_broken Same lower = lower
@@ -59,7 +60,7 @@ pub record First (order : Counts → Counts → Comparison) (n : ℕ) (s : ℕ �
   pub waits : is_waiting (s p) ≡ true
   pub first : (j : ℕ) → is_waiting (s j) ≡ true → (j ≢ p) → sooner order (waiter_of s p) (waiter_of s j) ≡ true
 
--- The order of places keeps the laws of an order with an index.
+-- What breaking ties keeps of a comparison.
 rank_one_way : (c : Comparison) (a b : ℕ) → tie_broken c (nat_lt a b) ≡ true → tie_broken (turned c) (nat_lt b a) ≡ false
 rank_one_way Cheaper a b e = refl
 rank_one_way Same a b e = le-ltb b a (let h = ltb-true a b e in omega arith)
@@ -80,6 +81,7 @@ later Cheaper lower h f = absurd (both_ways false refl h)
 later Same lower h f = f refl
 later Dearer lower h f = refl
 
+-- Under a lawful rate, to go before is an order: one way at most, and not to go before is passed on.
 pub sooner_rank : (order : Counts → Counts → Comparison) → Lawful order → IsStrictWeakOrder (sooner order)
 sooner_rank order law = record {
   one_way = λ a b e. ap (λ c. tie_broken c (nat_lt b.place a.place)) (law.turns (counts_of a) (counts_of b)) ∙ rank_one_way (order (counts_of a) (counts_of b)) a.place b.place e;
@@ -104,6 +106,7 @@ pub record Kept {S : Type 0} (by : S → Counts → Counts → Comparison) (entr
   pub size : length (entries t) ≡ length (entries s)
   pub lender : lent t ≡ lent s
 
+-- The places that wait keep the laws of an order whose index is the slots of the entries.
 pub waiters_lawful : {S : Type 0} (by : S → Counts → Counts → Comparison) → ((s : S) → Lawful (by s)) → (entries : S → List Entry) (lender : S → ℕ)
     → waiting.Lawful (λ s. sooner (by s)) (λ s. Known (entries s)) (λ s. Stands (entries s)) (λ (a b : Waiter). a.place ≢ b.place) (Kept by entries lender)
 waiters_lawful by law entries lender = record {

@@ -16,6 +16,7 @@ use Rattle.search.specs.Mark.{Mark, Waits, Done, reached, standing, Becomes}
 abbrev pub NoDearer : (Counts → Counts → Comparison) → Counts → Counts → Type 0
 NoDearer order x y = AtLeast order y x
 
+-- the place k was met, and is reached so
 abbrev pub Seen : (ℕ → Mark) → ℕ → Reached → Type 0
 Seen s k r = (s k ≡ Waits r) ⊎ (s k ≡ Done r)
 

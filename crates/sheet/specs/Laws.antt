@@ -41,6 +41,7 @@ pub record Valued (line : List ℕ) (names : Names) (n : ℕ) (e : Entry) : Type
   pub holds_third : Holds names.third third e
   pub numbered : e.line ≡ n
 
+-- What holds of the format, whatever the bytes.
 pub record FormatLaws : Type 0 where
   -- the pieces of a text make it again, no piece has a separator, and no other pieces do so
   pub rejoined : (s : ℕ) (text : List ℕ) → join_with_byte s (pieces s text) ≡ text

@@ -31,6 +31,7 @@ label_at rows cols numbers (pos r) (negsuc c) h = dead
 label_at rows cols numbers (negsuc r) (pos c) h = dead
 label_at rows cols numbers (negsuc r) (negsuc c) h = dead
 
+-- the same, by the point
 unfoldable pub label_of_point : ℕ → ℕ → List ℕ → Point → Heading → ℕ
 label_of_point rows cols numbers x h = label_at rows cols numbers x.row x.col h
 
@@ -43,6 +44,7 @@ module _ (free : Point → Bool) (label : Point → Heading → ℕ) where
   unfoldable pub due : Point → Heading → ℕ
   due x h = cond (legal free x h) (cond (ends x h) 1 (one_on (label (step h x) h))) dead
 
+  -- the equation of a point and a heading: the label is what it should be
   abbrev pub Holds : Point → Heading → Type 0
   Holds x h = label x h ≡ due x h
 
@@ -61,6 +63,7 @@ pub record Define (p : Plan) (label : Point → Heading → ℕ) : Type 0 where
   pub only : ((x : Point) (h : Heading) → Holds (opens p) label x h) → (x : Point) (h : Heading) → label x h ≡ label_of (jump_from p x h)
   pub all : ((x : Point) (h : Heading) → label x h ≡ label_of (jump_from p x h)) → (x : Point) (h : Heading) → Holds (opens p) label x h
 
+-- That is so on every plan within the limits, whatever the labels.
 abbrev pub EquationsDefine : Type 0
 EquationsDefine = (p : Plan) → Sized p → (label : Point → Heading → ℕ) → Define p label
 
@@ -69,6 +72,7 @@ pub record Seed : Type 0 where
   pub at : Point
   pub towards : Heading
 
+-- the seed of a point and a heading
 abbrev pub seed : Point → Heading → Seed
 seed x h = record { at = x; towards = h }
 

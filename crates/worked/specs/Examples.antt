@@ -16,6 +16,7 @@ use Rattle.cheapest.specs.Cheapest.{Cheapest}
 use Rattle.listing.specs.declared.millimetres.Refusal.{Refusal}
 use Rattle.listing.specs.Millimetres.{Measured}
 
+-- the cell in a row and a column
 abbrev pub cell : ℕ → ℕ → Cell
 cell r c = record { row = r; col = c }
 

@@ -25,6 +25,7 @@ live k = (k, true)
 abbrev pub dead : ℕ → ℕ × Bool
 dead k = (k, false)
 
+-- all examples
 abbrev pub table : List Example
 table =
     runs corridor (cell 0 0) (cell 0 2) (counts 4 0)
