@@ -3,6 +3,7 @@
 
 ghost use Rattle.std.specs.Prelude.{◌≡◌, length, replicate, IfOk, vec_items};
 ghost use Rattle.search.specs.Mark.{blank};
+ghost use Rattle.search.specs.Queue.{blank_waiter};
 ghost use Rattle.lists.specs.Lengths.{room_of};
 
 use lengths::Room;
@@ -21,10 +22,11 @@ pub struct Lists {
 }
 
 impl Lists {
-    // Lists of these lengths, if there is memory for them. No entry holds anything of a search.
+    // Lists of these lengths, if there is memory for them. Neither holds anything of a search.
     pub fn new(heap: Global, room: Room) -> Result<Lists, AllocError>
         ensures room { IfOk result (λ lists. room_of lists ≡ room) }
         ensures blank { IfOk result (λ lists. vec_items lists.entries ≡ replicate room.entries blank) }
+        ensures idle { IfOk result (λ lists. vec_items lists.waiting ≡ replicate room.waiting blank_waiter) }
     {
         Ok(Lists {
             entries: vec![in heap; Entry::BLANK; room.entries]?,

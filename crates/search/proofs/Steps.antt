@@ -2,7 +2,8 @@
 use Rattle.std.proofs.Common.{◌≡◌, ℕ, ◌+◌, ◌<◌, ◌≤◌, Bool, ◌⊎◌, Some, Option, sym, refl, ap, ◌∙◌, subst, inl, inr, arith}
 use Rattle.std.proofs.lemmas.Bool.{cases_eq}
 use Rattle.floor.specs.declared.Counts.{Counts}
-use Rattle.floor.specs.Tally.{counts, none, plus, steps, blocks}
+use Rattle.floor.specs.Tally.{none, plus, steps, blocks}
+use Rattle.floor.proofs.Walks.{none_plus}
 use Rattle.rate.specs.declared.Comparison.{Comparison}
 use Rattle.rate.specs.Laws.{at_least, Within, Lawful}
 use Rattle.rate.specs.Facts.{LessThan, Facts}
@@ -250,9 +251,6 @@ module _ (n : ℕ) (out : Position → ℕ → Option Edge) (fits : (p : Positio
     noted = onward s' q base turn before_edge (λ a is' _.
         let ea : e ≡ a = (let h : Some e ≡ Some a = sym is ∙ is' in cc) in
         subst (λ x. Followed order s' base x) ea (record { by = reached (plus base.counts e.counts) q; seen = inl new.at; cheap = like _ }))
-
-  none_plus : (c : Counts) → plus none c ≡ c
-  none_plus c = let a : 0 + c.straight ≡ c.straight = omega arith in let b : 0 + c.diagonal ≡ c.diagonal = omega arith in (λ k. counts (a k) (b k))
 
   none_least : (c : Counts) → NoDearer order none c
   none_least c = subst (λ x. NoDearer order none x) (none_plus c) (longer none c)

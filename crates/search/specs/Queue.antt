@@ -19,6 +19,10 @@ use Rattle.search.specs.Mark.{Mark, is_waiting, key, marks, slots, count}
 abbrev pub waiter : ℕ → Counts → Waiter
 waiter p c = record { straight = c.straight; diagonal = c.diagonal; place = p }
 
+-- what lists of waiters are made of: no place in particular, and no counts
+abbrev pub blank_waiter : Waiter
+blank_waiter = record { straight = 0; diagonal = 0; place = 0 }
+
 -- the place p, as it waits by what its mark says
 abbrev pub waiter_of : (ℕ → Mark) → ℕ → Waiter
 waiter_of s p = waiter p (key (s p))
