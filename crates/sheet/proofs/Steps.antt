@@ -6,9 +6,8 @@ use Rattle.sheet.specs.declared.Entry.{Entry}
 use Rattle.sheet.specs.declared.columns.Names.{Names}
 use Rattle.sheet.specs.declared.refusals.Refusal.{Refusal}
 use Rattle.sheet.specs.declared.refusals.Refusal.TheVariants.{BadNames, NoPanel}
-use Rattle.sheet.specs.Format.{pieces, lines, as_names}
-use Rattle.std.proofs.lemmas.Bool.{cond-false, le-ltb}
-use Rattle.sheet.specs.Meaning.{Reading, reading, onward, added, read_on, has_panel, answered, over, read_lines, reading_of, nothing}
+use Rattle.sheet.specs.Format.{pieces, as_names}
+use Rattle.sheet.specs.Meaning.{Reading, reading, onward, added, read_on, has_panel, answered, over, read_lines, nothing}
 use Rattle.sheet.proofs.Sound.{Sound, Joins, sound_none, sound_push, sound_few, added_joins, accepted}
 use Rattle.sheet.specs.Accepted.{Accepted}
 
@@ -119,7 +118,3 @@ module _ {names : Names} {whole : Reading} {total : ℕ} {old list : List Entry}
 
   pub written : list ≡ over whole.meant old
   written = as_over h ∙ ap (λ r. over r.meant old) (sym (read_end names (count + 2) (take count list)) ∙ h.same)
-
--- a sheet that is neither too long nor without room means what its lines do
-pub read_whole : (text : List ℕ) (space : ℕ) → length text ≤ 4096 → 256 ≤ space → reading_of text space ≡ read_lines (lines text)
-read_whole text space short wide = cond-false _ _ _ (le-ltb 4096 (length text) short) ∙ cond-false _ _ _ (le-ltb space 256 wide)
