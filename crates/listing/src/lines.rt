@@ -1,5 +1,5 @@
 // The listing of a loop, leg by leg, at the front of a lent buffer.
-ghost use Rattle.std.specs.Prelude.{◌≡◌, ◌+◌, ◌^◌, ◌<◌, ◌≤◌, ◌++◌, List, length, Some, None, decimal, MatchResult};
+ghost use Rattle.std.specs.Prelude.{◌≡◌, ◌+◌, ◌<◌, ◌≤◌, ◌++◌, List, length, Some, None, decimal, MatchResult};
 ghost use Rattle.writing.specs.Fronts.{Fits, Added};
 ghost use Rattle.listing.specs.declared.millimetres.Refusal.{Refusal as Refused};
 ghost use Rattle.listing.specs.Millimetres.{refusal, Figure};

@@ -1,5 +1,5 @@
 // Where the bits of a plan lie in its memory: once by rows, and after these once by columns.
-ghost use Rattle.std.specs.Prelude.{◌≡◌, ℕ, ◌+◌, ◌-◌, ◌*◌, ◌^◌, ◌<◌, ◌≤◌, min};
+ghost use Rattle.std.specs.Prelude.{◌≡◌, ◌+◌, ◌-◌, ◌*◌, ◌^◌, ◌<◌, min};
 ghost use Rattle.packed.specs.Layout.{line_words, by_rows, by_cols, words_needed, word_of};
 
 use source::Size;

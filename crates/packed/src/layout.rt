@@ -1,5 +1,5 @@
 // A plan on lent words, by rows and by columns: a set bit is a closed cell.
-ghost use Rattle.std.specs.Prelude.{◌≡◌, ◌<◌, ◌≤◌, Bool, true, length, drop, refl};
+ghost use Rattle.std.specs.Prelude.{◌≡◌, ◌<◌, true, drop, refl};
 ghost use Rattle.std.proofs.Common.{◌∙◌};
 ghost use Rattle.floor.specs.Plans.{marked};
 ghost use Rattle.source.specs.Sizes.{within_limits};

@@ -1,5 +1,5 @@
 // Bits of words: reading one, writing one, and finding the first that is set.
-ghost use Rattle.std.specs.Prelude.{◌≡◌, ℕ, ◌+◌, ◌-◌, ◌<◌, Bool, true, false, if◌then◌else◌, MatchOption, nat_eq};
+ghost use Rattle.std.specs.Prelude.{◌≡◌, ℕ, ◌-◌, ◌<◌, true, false, if◌then◌else◌, MatchOption, nat_eq};
 ghost use Rattle.packed.specs.Bits.{turned, bit, sooner, previous};
 
 // The ways along a line: from its first place to its last, or back.

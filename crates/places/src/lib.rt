@@ -1,7 +1,7 @@
 // Places by their numbers, and what a search needs of the leaps between them.
 #![tactic(auto)]
 
-ghost use Rattle.std.specs.Prelude.{◌≡◌, ℕ, ◌^◌, ◌<◌};
+ghost use Rattle.std.specs.Prelude.{◌≡◌, ◌^◌, ◌<◌};
 ghost use Rattle.floor.specs.Places.{place_number};
 ghost use Rattle.places.specs.Leaps.{cell_of, heading_of};
 

@@ -1,5 +1,5 @@
 // The four functions that every source has, each promised by the plan that the source means.
-ghost use Rattle.std.specs.Prelude.{◌≡◌, Bool, true, false, cond};
+ghost use Rattle.std.specs.Prelude.{◌≡◌, true, false};
 ghost use Rattle.floor.specs.Plans.{Plan, Sized, inside, is_open, marked};
 ghost use Rattle.floor.specs.Jumps.{jump_of};
 
