@@ -1,6 +1,5 @@
 // Whole runs: any list of calls, in any order, refused ones included.
-ghost use Rattle.std.specs.Prelude.{◌≡◌, List, length, IfOk, OnOk};
-ghost use Rattle.floor.specs.Plans.{closed};
+ghost use Rattle.std.specs.Prelude.{◌≡◌, IfOk, OnOk};
 ghost use Rattle.history.specs.Calls.{after_all};
 ghost use Rattle.history.specs.Records.{all_asked, all_told};
 ghost use Rattle.history.specs.Promise.{AnsweredInTurn, CheapestAtEveryMoment, TheSameForAnyTwoSources, MoreOpenCellsNeverCostMore};

@@ -1,9 +1,9 @@
 // One call at a time: the public step of which every run is made.
-ghost use Rattle.std.specs.Prelude.{◌≡◌, ℕ, ◌+◌, ◌-◌, IfOk};
+ghost use Rattle.std.specs.Prelude.{◌≡◌, ◌-◌, IfOk};
 ghost use Rattle.floor.specs.Plans.{legal};
 ghost use Rattle.lengths.specs.Answers.{costs, drawn_costs, corner_count, LengthTold, RouteTold};
 ghost use Rattle.planner.specs.Loops.{LoopTold};
-ghost use Rattle.history.specs.Calls.{State, next, Right};
+ghost use Rattle.history.specs.Calls.{next, Right};
 ghost use Rattle.history.specs.Records.{asked, told, measured_legs};
 
 use crate::calls::{Answer, Call};

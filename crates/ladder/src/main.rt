@@ -1,7 +1,7 @@
 // A ladder, as the least example of a graph to search: up by one with a straight step, up by two with a diagonal one.
 #![tactic(auto)]
 
-ghost use Rattle.std.specs.Prelude.{◌≡◌, ◌==◌, nat_eq};
+ghost use Rattle.std.specs.Prelude.{◌==◌, nat_eq};
 ghost use Rattle.ladder.specs.Rungs.{rungs, ladder_sound};
 
 use floor::Counts;

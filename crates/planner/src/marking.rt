@@ -1,8 +1,8 @@
 // A planner over any source and any rate, and the two calls that change its floor.
-ghost use Rattle.std.specs.Prelude.{◌≡◌, ℕ, ◌+◌, ◌<◌, true, false};
+ghost use Rattle.std.specs.Prelude.{◌≡◌, ◌<◌, true, false};
 ghost use Rattle.floor.specs.Plans.{closed};
 ghost use Rattle.planner.specs.Loops.{after, mark_answer};
-ghost use Rattle.planner.specs.Shutting.{shut_row, shut_rows};
+ghost use Rattle.planner.specs.Shutting.{shut_row};
 
 use floor::Cell;
 use lengths::Refusal;

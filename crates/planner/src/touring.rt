@@ -1,5 +1,5 @@
 // The loop through a list of cells, leg by leg: each cell to the next, and the last back to the panel.
-ghost use Rattle.std.specs.Prelude.{◌≡◌, ℕ, ◌<◌, length, IfErr, slice_index_or};
+ghost use Rattle.std.specs.Prelude.{◌≡◌, ◌<◌, length, IfErr, slice_index_or};
 ghost use Rattle.std.specs.Result.{result_err, result_map_both};
 ghost use Rattle.floor.specs.Plans.{legal};
 ghost use Rattle.cheapest.specs.Cheapest.{Leg, legs as legs_of};

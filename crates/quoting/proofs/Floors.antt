@@ -1,6 +1,7 @@
 -- Idea: opening the cells that the entries name, one after another, leaves open just those that some entry names.
 use Rattle.std.proofs.Common.{◌≡◌, ℕ, ◌+◌, ◌<◌, ◌≤◌, Bool, true, false, cond, ◌&&◌, ◌||◌, eqb, ltb, List, [], ◌∷◌, map, length, get_or, take, sym, refl, ap, ◌∙◌, arith}
 use Rattle.std.specs.List.{AllByRecursion}
+use Rattle.std.proofs.Math.Bool.{or-false}
 use Rattle.std.proofs.lemmas.List.{take-map, get_or-map, length-map}
 use Rattle.std.proofs.ByRecursion.{All-from_get_or}
 use Rattle.std.proofs.lemmas.List.Sums.{fold_more}
@@ -35,10 +36,6 @@ all_inside es a = All-from_get_or Inside es (entry_at 0 0 Open 0) (λ i h. (a.ro
 names : (e : Entry) (r c : ℕ) → same_cell e.cell (record { row = r; col = c }) ≡ (eqb r e.cell.row && eqb c e.cell.col)
 names e r c = grind (arith, nat_tests)
 
-or_false : (b : Bool) → (b || false) ≡ b
-or_false true = refl
-or_false false = refl
-
 either : (s t n f : Bool) → s ≡ t → (n || cond t true f) ≡ ((s || n) || f)
 either true true true f e = refl
 either true true false f e = refl
@@ -57,7 +54,7 @@ opened_is (e ∷ es) free inside =
     ∙ (λ i. record { rows = 16; cols = 16; free = λ r c. either (same_cell e.cell (record { row = r; col = c })) (eqb r e.cell.row && eqb c e.cell.col) (named (record { row = r; col = c }) es) (free r c) (names e r c) i })
 
 pub floor_opened : (es : List Entry) → Accepted es → opened (closed 16 16) (cells_of es) ≡ floor_of es
-floor_opened es a = opened_is es (λ r c. false) (all_inside es a) ∙ (λ i. record { rows = 16; cols = 16; free = λ r c. or_false (named (record { row = r; col = c }) es) i })
+floor_opened es a = opened_is es (λ r c. false) (all_inside es a) ∙ (λ i. record { rows = 16; cols = 16; free = λ r c. or-false (named (record { row = r; col = c }) es) i })
 
 -- nothing is named outside
 named_inside : (es : List Entry) → AllByRecursion Inside es → (r c : ℕ) → (ltb r 16 && ltb c 16) ≡ false → named (record { row = r; col = c }) es ≡ false

@@ -1,5 +1,5 @@
 // The loop through the stops of a sheet, on a floor with the sheet's cells open.
-ghost use Rattle.std.specs.Prelude.{◌≡◌, ℕ, ◌≤◌, length, OnOk};
+ghost use Rattle.std.specs.Prelude.{◌≡◌, ◌≤◌, length, OnOk};
 ghost use Rattle.floor.specs.Plans.{closed, legal};
 ghost use Rattle.source.specs.Drawing.{opened};
 ghost use Rattle.planner.specs.Touring.{Toured};

@@ -2,7 +2,7 @@
 ghost use Rattle.std.specs.Prelude.{◌≡◌, ◌≤◌, [], Some, length};
 ghost use Rattle.floor.specs.Plane.{point};
 ghost use Rattle.table.specs.Layout.{Placed, Defined, Remarked, needed, plan_of};
-ghost use Rattle.table.specs.Equations.{PutRight, seeds, seeds_of, all_seeds};
+ghost use Rattle.table.specs.Equations.{PutRight, seeds, all_seeds};
 
 use crate::reading::View;
 use floor::{Cell, Heading, Side};
