@@ -1,6 +1,5 @@
 // What C calls: a batch on a new floor of a size, over lent bytes, words or numbers, under the exact rate. The answer is whether it was done: not where the size
 // check refuses, where a reply has no place, or where there is no memory for the work lists; then no reply is written.
-ghost use Rattle.std.specs.Prelude.{◌≡◌};
 ghost use Rattle.rate.specs.Exact.{exact};
 ghost use Rattle.boundary.specs.Batches.{Done};
 
