@@ -1,5 +1,5 @@
 // Pseudo-random numbers, the same at each run with one seed.
-ghost use Rattle.std.specs.Prelude.{◌<◌, ◌≤◌};
+ghost use Rattle.std.specs.Prelude.{◌<◌};
 
 use crate::extent::Extent;
 use floor::Cell;

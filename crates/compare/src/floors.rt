@@ -1,5 +1,5 @@
 // Floors of many sizes and kinds, laid out by chance.
-ghost use Rattle.std.specs.Prelude.{◌<◌, ◌≤◌};
+ghost use Rattle.std.specs.Prelude.{◌<◌};
 
 use crate::dice::Dice;
 use crate::grid::{Grid, neighbour};
