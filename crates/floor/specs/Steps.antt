@@ -28,8 +28,8 @@ abbrev pub shifted : ℤ → ℕ → ℤ → ℤ
 shifted d zero z = z
 shifted d (suc k) z = shifted d k (z +ℤ d)
 
--- The one number of steps, at least 1, that leads a row or a column from one number to another, or None where no number of steps does.
--- For a shift that stays the answer is always None: it leads nowhere else, and to where it is after any number of steps, so that none is the one.
+-- After how many steps, at least 1, a shifted row or column comes to another. Some tells the only number of steps that leads there; None says that none does.
+-- A shift that stays is at its own number after every number of steps, and at no other ever: no number is the only one, so its answer is always None.
 abbrev pub Meets : Shift → ℕ → ℕ → Option ℕ → Type 0
 Meets s from to (Some k) = (1 ≤ k) × (shifted (by s) k (pos from) ≡ pos to) × ((i : ℕ) → shifted (by s) i (pos from) ≡ pos to → i ≡ k)
 Meets s from to None = (s ≢ Same) → (i : ℕ) → 1 ≤ i → shifted (by s) i (pos from) ≢ pos to
