@@ -1,6 +1,5 @@
 -- What a copy of a line shows: the line's own words, and closed places where these end and outside.
 use Rattle.std.proofs.Common.{◌≡◌, ℕ, zero, suc, ◌+◌, ◌-◌, ◌*◌, ◌/◌, ◌%◌, ◌^◌, ◌<◌, ◌≤◌, true, false, cond, ◌&&◌, ltb, List, [], ◌∷◌, get_or, sym, refl, ap, ◌∙◌, inl, inr, arith}
-use Rattle.std.proofs.lemmas.Nat.{mul-le}
 use Rattle.std.proofs.lemmas.Bool.{cases_lt, and_from, and_left, and_right, lt-ltb, le-ltb}
 use Rattle.packed.specs.declared.halves.Half.{Half}
 use Rattle.packed.specs.Bits.{bit}
@@ -8,12 +7,9 @@ use Rattle.packed.specs.Layout.{line_words, word_of, shut}
 use Rattle.packed.specs.Scans.{seen, line_at}
 use Rattle.packed.proofs.Digits.{bit_all}
 
--- a line's first word lies at most where its half ends
-pub line_begins : (h : Half) (l : ℕ) → l < h.lines → word_of h l 0 ≤ h.from + h.lines * line_words h.long
-line_begins h l p = let rest = mul_le_mul_right_of l h.lines (line_words h.long) p in omega arith
-  where
-    mul_le_mul_right_of : (a b w : ℕ) → a < b → a * w ≤ b * w
-    mul_le_mul_right_of a b w q = mul-le a w b w (omega arith) (omega arith)
+-- the words of the next line follow
+pub line_follows : (h : Half) (l : ℕ) → word_of h (suc l) 0 ≡ word_of h l 0 + line_words h.long
+line_follows h l = omega arith
 
 -- words of set bits show closed places only
 all_closed : (copy : List ℕ) → ((j : ℕ) → j < 2 → get_or copy j 0 ≡ 2 ^ 64 - 1) → (q : ℕ) → seen copy q ≡ true

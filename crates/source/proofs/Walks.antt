@@ -1,6 +1,6 @@
 -- A walk along a jump: at each cell what is left of the jump is the jump from there, so that the steps taken and the steps left are the whole.
 use Rattle.std.proofs.Common.{◌≡◌, ℕ, suc, ◌+◌, ◌<◌, Bool, true, false, not, ◌&&◌, ◌||◌, sym, ap, ◌∙◌, subst, arith}
-use Rattle.std.proofs.lemmas.Bool.{and_from, and_left, and_right}
+use Rattle.std.proofs.lemmas.Bool.{and_from, and_left, and_right, and_parts}
 use Rattle.floor.specs.declared.Cell.{Cell}
 use Rattle.floor.specs.declared.Heading.{Heading}
 use Rattle.floor.specs.declared.Side.{Side}
@@ -22,14 +22,16 @@ module _ (p : Plan) (c d : Cell) (h : Heading) (end : point d ≡ step h (point 
   pub is_legal : true ≡ is_open p c → true ≡ is_open p d → true ≡ clear_of_corners p c h → legal (opens p) (point c) h ≡ true
   is_legal here there clear = legal_by ∙ and_from _ _ (and_from _ _ (sym here) (sym there)) (sym clear)
 
-  pub closed_here : false ≡ is_open p c → legal (opens p) (point c) h ≡ false
-  closed_here e = legal_by ∙ and_left _ _ (and_left _ _ (sym e))
-
   pub closed_there : false ≡ is_open p d → legal (opens p) (point c) h ≡ false
   closed_there e = legal_by ∙ and_left _ _ (and_right _ _ (sym e))
 
   pub corner_cut : false ≡ clear_of_corners p c h → legal (opens p) (point c) h ≡ false
   corner_cut e = legal_by ∙ and_right _ _ (sym e)
+
+  -- a legal step ends at an open cell
+  pub there_open : legal (opens p) (point c) h ≡ true → is_open p d ≡ true
+  unfolding legal
+  there_open e = ap (opens p) end ∙ (and_parts _ _ (and_parts _ _ e).0).1
 
 pub no_end : (p : Plan) (x : Point) (h : Heading) → opens p (step h x) ≡ false → legal (opens p) x h ≡ false
 unfolding legal
@@ -83,6 +85,9 @@ module _ (p : Plan) (mark : Point → Bool) (h : Heading) where
   pub few_steps : Sized p → (c d : Cell) (k : ℕ) → Along c k d → k < 128
   few_steps s c d k a = omega (arith, a.0, scan_fits p mark h (p.rows + p.cols) (point c), room_fits p 127 (omega (arith, s.few_rows)) (omega (arith, s.few_cols)) h (point c))
 
--- there is no jump from a closed cell
+  -- there is no jump from a closed cell
+  pub from_closed : (c : Cell) → is_open p c ≡ false → ◌≡◌ {A = ℕ × Bool} (0, false) (scanned p mark h (point c))
+  from_closed c e = sym (scan_blocked p mark h (point c) (closed_stays (opens p) (point c) h e))
+
 pub closed_jump : (p : Plan) (h : Heading) (c : Cell) → is_open p c ≡ false → ◌≡◌ {A = ℕ × Bool} (0, false) (straight_from p c h)
-closed_jump p h c e = sym (scan_blocked p (straight_mark p h) h (point c) (closed_stays (opens p) (point c) h e))
+closed_jump p h c = from_closed p (straight_mark p h) h c

@@ -33,13 +33,25 @@ pub trait Ground {
                 && self.is_free_on(cell, towards.turn(Side::Right)))
     }
 
+    // Where a step from an open cell ends, if it is legal.
+    fn step_from_free(&self, cell: Cell, towards: Heading) -> Option<Cell>
+        requires { is_open (plan self.now) cell ≡ true }
+        ensures { LegalStep (plan self.now) cell towards result }
+    {
+        let next = cell.stepped(towards)?;
+        if self.is_free(next) && self.cuts_no_corner(cell, towards) {
+            Some(next)
+        } else {
+            None
+        }
+    }
+
     // Where a legal step ends.
     fn legal_step(&self, cell: Cell, towards: Heading) -> Option<Cell>
         ensures { LegalStep (plan self.now) cell towards result }
     {
-        let next = cell.stepped(towards)?;
-        if self.is_free(cell) && self.is_free(next) && self.cuts_no_corner(cell, towards) {
-            Some(next)
+        if self.is_free(cell) {
+            self.step_from_free(cell, towards)
         } else {
             None
         }
@@ -70,10 +82,13 @@ pub trait Ground {
         requires { F.IsAlwaysCallable ends }
         ensures { (mark : Point → Bool) → Tells (F.post ends) towards mark → result ≡ scanned (plan self.now) mark towards (point cell) }
     {
+        if !self.is_free(cell) {
+            return (0, false);
+        }
         // Kept: the steps are counted by hand, since their count is the answer.
         let mut steps: u16 = 0;
         let mut at = cell;
-        while let Some(next) = self.legal_step(at, towards) {
+        while let Some(next) = self.step_from_free(at, towards) {
             steps += 1;
             if ends(at, next) {
                 return (steps, true);
