@@ -1,5 +1,5 @@
 -- Words tell of a whole line at once: bit i of word j is place 64 × j + i, the first set bit is the first place, and the first place is so many steps away.
-use Rattle.std.proofs.Common.{◌≡◌, ℕ, zero, suc, ◌+◌, ◌-◌, ◌*◌, ◌/◌, ◌%◌, ◌^◌, ◌<◌, ◌≤◌, Bool, true, false, cond, not, ◌&&◌, ◌||◌, ltb, ◌⊎◌, List, get_or, Some, None, Option, sym, refl, ap, ◌∙◌, subst, inl, inr, arith}
+use Rattle.std.proofs.Common.{◌≡◌, ℕ, zero, suc, ◌+◌, ◌-◌, ◌*◌, ◌/◌, ◌%◌, ◌^◌, ◌<◌, ◌≤◌, Bool, true, false, cond, not, ◌&&◌, ◌||◌, ltb, ◌⊎◌, List, [], ◌∷◌, get_or, Some, None, Option, sym, refl, ap, ◌∙◌, subst, inl, inr, arith}
 use lib.Bits.{bit_and, bit_or}
 use Rattle.std.proofs.lemmas.Bool.{cases_Bool, cases_lt, cases_eq, and_parts, and_from, both_ways, or_left, ltb-true, lt-ltb, le-ltb}
 use Rattle.packed.specs.declared.words.Way.{Way}
@@ -144,11 +144,26 @@ module _ (lines : Lines) (way : Way) (at : ℕ) (at< : at < 128) where
       let n : 64 * j + i % 64 ≡ i = omega arith in
       sym (tells (i % 64) (omega arith) ∙ ap (λ k. ends lines way (suc k)) n)
 
-  module _ (w mask : ℕ) (tells : Tells (at / 64) w) (masked : (i : ℕ) → i < 64 → bit mask i ≡ sooner way (at % 64) i) where
+  -- the words of a line tell it, each of its own places
+  module _ (first second mask : ℕ) (tells-first : Tells 0 first) (tells-second : Tells 1 second) (masked : (i : ℕ) → i < 64 → bit mask i ≡ sooner way (at % 64) i) where
+    abbrev word : ℕ → ℕ
+    word j = get_or (first ∷ (second ∷ [])) j 0
+
+    abbrev w : ℕ
+    w = word (at / 64)
+
+    tells : (j : ℕ) → j < 2 → Tells j (word j)
+    tells zero l = tells-first
+    tells (suc zero) l = tells-second
+    tells (suc (suc j)) l = absurd (omega arith)
+
+    tells-own : Tells (at / 64) w
+    tells-own = tells (at / 64) (omega arith)
+
     -- where the rest of the own word has no bit set up to some place, no scan ends
     clear_own : (i : ℕ) → i / 64 ≡ at / 64 → sooner way at i ≡ true → bit (bit_and w mask) (i % 64) ≡ false → ends lines way (suc i) ≡ false
     clear_own i e p none =
-        by_word w (at / 64) i tells e ∙
+        by_word w (at / 64) i tells-own e ∙
         (elim (cases_Bool (bit w (i % 64))) [
           | inr f ↦ f
           | inl t ↦ absurd (both_ways _ none (bit_of_and w mask (i % 64) ∙ and_from _ _ t (masked (i % 64) (omega arith) ∙ same_word way at i (sym e) p)))
@@ -160,7 +175,7 @@ module _ (lines : Lines) (way : Way) (at : ℕ) (at< : at < 128) where
         record {
           within = omega arith;
           after = of_word way at f l (sym (masked f l) ∙ parts.1);
-          ending = sym (tells f l) ∙ parts.0;
+          ending = sym (tells-own f l) ∙ parts.0;
           none = λ i s p q.
               let word : i / 64 ≡ at / 64 = between way at i (64 * (at / 64) + f) p q (omega arith) in
               let bits : sooner way (i % 64) ((64 * (at / 64) + f) % 64) ≡ true = same_word way i (64 * (at / 64) + f) (omega arith) q in
@@ -172,28 +187,31 @@ module _ (lines : Lines) (way : Way) (at : ℕ) (at< : at < 128) where
       pub in_no_word : None ≡ next_word way (at / 64) → Next lines at way None
       in_no_word e i s p = clear_own i (last_word way at at< e i s p) p (own (i % 64) (omega arith))
 
-      module _ (far v : ℕ) (e : Some far ≡ next_word way (at / 64)) (tells' : Tells far v) where
-        pub in_other : (f : ℕ) → f < 64 → bit v f ≡ true → ((i : ℕ) → i < 64 → sooner way i f ≡ true → bit v i ≡ false) → First lines at way (64 * far + f)
+      module _ (far : ℕ) (e : Some far ≡ next_word way (at / 64)) where
+        tells-far : Tells far (word far)
+        tells-far = tells far (ahead way at far at< e).small
+
+        pub in_other : (f : ℕ) → f < 64 → bit (word far) f ≡ true → ((i : ℕ) → i < 64 → sooner way i f ≡ true → bit (word far) i ≡ false) → First lines at way (64 * far + f)
         in_other f l is none =
             let a = ahead way at far at< e in
             let small = a.small in
             record {
               within = omega arith;
               after = a.after f l;
-              ending = sym (tells' f l) ∙ is;
+              ending = sym (tells-far f l) ∙ is;
               none = λ i s p q. elim (a.either i s p) [
                 | inl near ↦ clear_own i near p (own (i % 64) (omega arith))
                 | inr there ↦
                     let bits : sooner way (i % 64) ((64 * far + f) % 64) ≡ true = same_word way i (64 * far + f) (omega arith) q in
                     let place : (64 * far + f) % 64 ≡ f = omega arith in
-                    by_word v far i tells' there ∙ none (i % 64) (omega arith) (subst (λ k. sooner way (i % 64) k ≡ true) place bits)
+                    by_word (word far) far i tells-far there ∙ none (i % 64) (omega arith) (subst (λ k. sooner way (i % 64) k ≡ true) place bits)
               ];
             }
 
-        pub in_neither : ((i : ℕ) → i < 64 → bit v i ≡ false) → Next lines at way None
+        pub in_neither : ((i : ℕ) → i < 64 → bit (word far) i ≡ false) → Next lines at way None
         in_neither none i s p = elim ((ahead way at far at< e).either i s p) [
           | inl near ↦ clear_own i near p (own (i % 64) (omega arith))
-          | inr there ↦ by_word v far i tells' there ∙ none (i % 64) (omega arith)
+          | inr there ↦ by_word (word far) far i tells-far there ∙ none (i % 64) (omega arith)
         ]
 
 -- ---- steps

@@ -70,18 +70,21 @@ fn next_ending(lines: &Lines, at: usize, way: Way) -> Option<usize>
     requires { at < 128 }
     ensures { Next lines.now at way result }
 {
+    // Of both words, so that none is looked up by its number.
+    let ends = [endings(lines, 0, way), endings(lines, 1, way)];
     let near = at / WORD;
-    let own = endings(lines, near, way) & beyond(at % WORD, way);
+    let own = ends[near] & beyond(at % WORD, way);
     if let Some(place) = first_set(own, way) {
         return Some(WORD * near + place);
     }
     let far = next_word(near, way)?;
-    let place = first_set(endings(lines, far, way), way)?;
+    let place = first_set(ends[far], way)?;
     Some(WORD * far + place)
 }
 
 // How far one comes from `at`, and whether it is a stop that one comes to. What ends no scan is a legal step.
-pub fn scan(lines: &Lines, at: usize, way: Way) -> (u16, bool)
+#[inline(always)]
+fn scan_on_way(lines: &Lines, at: usize, way: Way) -> (u16, bool)
     requires { at < 128 }
     ensures { Scanned lines.now at way result }
 {
@@ -97,5 +100,16 @@ pub fn scan(lines: &Lines, at: usize, way: Way) -> (u16, bool)
         (steps - 1, false)
     } else {
         (steps, true)
+    }
+}
+
+// The same. Kept: a match of two like arms, so that each way is compiled by itself, and asks for no way within.
+pub fn scan(lines: &Lines, at: usize, way: Way) -> (u16, bool)
+    requires { at < 128 }
+    ensures { Scanned lines.now at way result }
+{
+    match way {
+        Way::Forward => scan_on_way(lines, at, Way::Forward),
+        Way::Backward => scan_on_way(lines, at, Way::Backward),
     }
 }

@@ -1,7 +1,7 @@
 use Rattle.std.proofs.Common.{◌-◌, false, None, sym, subst}
 use Rattle.packed.specs.Scans.{Next, Scanned}
 use Rattle.packed.proofs.Scanning.{found_closed, found_stop, runs_out_forward, runs_out_backward}
-use Rattle.packed.proofs.scans.scan.Goals as goal
+use Rattle.packed.proofs.scans.scan_on_way.Goals as goal
 
 pub returns-then-is_set : goal.returns-then-is_set
 returns-then-is_set c =
