@@ -1,8 +1,8 @@
 // Why a sheet is not quoted: a line of values, whose text is fixed, and a sentence.
-ghost use Rattle.std.specs.Prelude.{◌≡◌, Some};
+ghost use Rattle.std.specs.Prelude.{◌≡◌};
 ghost use Rattle.writing.specs.Fronts.{Wrote, Fits, Added};
 ghost use Rattle.sheet.specs.Refusals.{figures_of};
-ghost use Rattle.quoting.specs.Faults.{origin_name, sheet_fault, call_fault, fault_text, fault_of, fault_line, refusal_text};
+ghost use Rattle.quoting.specs.Faults.{origin_name, sheet_fault, call_fault, fault_of, fault_line, refusal_text};
 
 use crate::quotes::PAGE;
 use lengths::Refusal as CallRefusal;
@@ -33,7 +33,7 @@ pub struct Fault {
 
 impl Origin {
     // The word for it.
-    pub fn name(self) -> &'static str
+    fn name(self) -> &'static str
         ensures { result.now ≡ origin_name self }
     {
         match self {
@@ -41,32 +41,6 @@ impl Origin {
             Origin::Planner => "planner",
             Origin::Listing => "listing",
         }
-    }
-}
-
-impl Display for Origin {
-    ghost output = { λ o. Some (origin_name o) };
-
-    fn fmt<W: fmt::Write>(&self, f: &mut fmt::Formatter<W>) -> fmt::Result {
-        f.write_str(self.name())
-    }
-}
-
-impl Display for Fault {
-    ghost output = { λ x. Some (fault_text x) };
-
-    fn fmt<W: fmt::Write>(&self, f: &mut fmt::Formatter<W>) -> fmt::Result {
-        let Fault {
-            number,
-            from,
-            line,
-            field,
-            leg,
-        } = *self;
-        write!(
-            f,
-            "number from line field leg\n{number} {from} {line} {field} {leg}"
-        )
     }
 }
 
@@ -88,7 +62,7 @@ impl From<&sheet::Refusal> for Fault {
 
 // A refusal that lies in no sheet, as it is printed, with the leg of a loop from 1, or 0 where there is none.
 // Kept: a From would need a refusal to convert from, and here are who refuses and two numbers.
-pub fn call_fault(from: Origin, number: usize, leg: usize) -> Fault
+fn call_fault(from: Origin, number: usize, leg: usize) -> Fault
     ensures { result ≡ call_fault from number leg }
 {
     Fault {

@@ -5,5 +5,5 @@ mod faults;
 mod loops;
 mod quotes;
 
-pub use faults::{Fault, Origin, Refusal, call_fault};
+pub use faults::{Fault, Origin, Refusal};
 pub use quotes::{MOST_READ, Outcome, PAGE, quote};

@@ -14,7 +14,7 @@ pub const BEFORE: Entry = Entry {
 #[cfg(test)]
 mod tests {
     use super::*;
-    use quoting::{Fault, PAGE, quote};
+    use quoting::{Fault, Origin, PAGE, quote};
     use sheet::{Figures, MAX_ENTRIES};
     use std::alloc::{AllocError, Global};
     use std::fmt::Write;
@@ -216,11 +216,14 @@ mod tests {
         let Err(refusal) = sheet::read(b"row col mark\n0 0 P\n0 05 .\n", &mut entries) else {
             return Err(Fail::new("the sheet was accepted"));
         };
-        let figures = Fault::from(&refusal).to_string(rt.alloc())?;
-        assert_eq!(rt;
-            figures.as_str(),
-            "number from line field leg\n19 sheet 3 2 0"
-        );
+        let figures = Fault {
+            number: 19,
+            from: Origin::Sheet,
+            line: 3,
+            field: 2,
+            leg: 0,
+        };
+        assert_eq!(rt; Fault::from(&refusal), figures);
         let words = refusal.to_string(rt.alloc())?;
         assert_eq!(rt;
             words.as_str(),
