@@ -108,7 +108,7 @@ System proved(std::string name, bool (*run)(Word *, size_t, size_t, size_t, cons
         }
         return timed(f, queries);
     };
-    s.memory = [=](const Floor &f) { return std::make_pair(words(f.side) * sizeof(Word), size_t(8) * f.side * f.side * (16 + 4)); };
+    s.memory = [=](const Floor &f) { return std::make_pair(words(f.side) * sizeof(Word), size_t(8) * f.side * f.side * (16 + 8)); };
     return s;
 }
 
