@@ -25,7 +25,7 @@ pub struct Leaps<'a, S> {
 }
 
 // The edge of the leap from a cell in a heading towards a target, if there is one.
-// Kept: no method of `Leaps`, which it would keep in memory: searches take 0.2 to 1.2 % more instructions so.
+// Kept: no method of `Leaps`, which it would keep in memory: searches took 0.2 to 1.2 % more instructions so when it was tried.
 fn leap_from<S: JumpSource>(source: &S, cell: Cell, heading: Heading, target: Cell) -> Option<Edge>
     ensures { result ≡ option_map (leap (S.JumpSource.meaning source.now).cols (point cell) heading) (next_of (S.JumpSource.meaning source.now) (point target) (point cell) heading) }
 {

@@ -48,7 +48,7 @@ impl<'a, R: Rate> Order<Waiter> for ByCost<'a, R> {
 // Kept: the queue is no invariant of the type; it is wrong between the write of an entry and the move in the heap that follows.
 // Kept: with the waiting list itself in place of a borrow, what the entries are when this struct is let go is not proved; it is no faster.
 // Kept: the order is made anew at each move in the heap: within this struct it would hold the entries, and what they are when both are let go is not proved.
-// Kept: the graph stands beside this struct, not in it, and with it that there are as many entries as places: within, searches take 0.1 to 0.9 % more instructions.
+// Kept: the graph stands beside this struct, not in it, and with it that there are as many entries as places: within, searches took 0.1 to 0.9 % more instructions when it was tried.
 #[derive(Drop)]
 pub(crate) struct Frontier<'a, 'b, R> {
     pub(crate) entries: &'a mut [Entry],
@@ -74,7 +74,7 @@ impl<'a, 'b, R: Rate> Frontier<'a, 'b, R> {
         self.places.put(Waiter::of(place, new.counts), order);
     }
 
-    // Makes a place cheaper that waits. Seldom asked for, and not inlined, so that `note` stays short: searches take 0.1 to 0.3 % fewer instructions.
+    // Makes a place cheaper that waits. Seldom asked for, and not inlined, so that `note` stays short: searches take up to 1 % fewer instructions.
     #[inline(never)]
     fn improve(&mut self, place: u32, new: Reached)
         requires within { Offered self.old place new }
@@ -95,8 +95,7 @@ impl<'a, 'b, R: Rate> Frontier<'a, 'b, R> {
             .raise(slot as usize, Waiter::of(place, new.counts), order);
     }
 
-    // Finishes the first of the places that wait, if any does. Inlined, since as a call of its own it makes searches take 0.1 to 0.4 % more instructions.
-    #[inline(always)]
+    // Finishes the first of the places that wait, if any does.
     pub(crate) fn finish_first(&mut self) -> Option<u32>
         requires queued { Queued R.Rate.order self.old }
         ensures first { MatchOption result ((k : ℕ) → is_waiting (marks self.old.entries.now k) ≡ false) (λ place. First (R.Rate.order self.old.rate.now) (length self.old.entries.now) (marks self.old.entries.now) place) }
@@ -134,7 +133,7 @@ impl<'a, 'b, R: Rate> Frontier<'a, 'b, R> {
         }
     }
 
-    // Follows the edges of all eight turns. Inlined, since as a call of its own, for each place finished, it makes searches take 1 to 3 % more instructions.
+    // Follows the edges of all eight turns. Inlined, since as a call of its own, for each place finished, it makes searches take 0.5 to 5 % more instructions.
     #[inline(always)]
     pub(crate) fn follow_all<G: Graph>(&mut self, graph: &G, from: Position, base: Reached)
         requires sized { length self.old.entries.now ≡ G.Graph.size graph.now }
