@@ -24,20 +24,16 @@ sheet_fault f = record { number = f.number; from = origin.Sheet; line = f.line; 
 abbrev pub call_fault : Origin → ℕ → ℕ → Fault
 call_fault from number leg = record { number = number; from = from; line = 0; field = 0; leg = leg }
 
--- a refusal: the names, and one line of values
-abbrev pub fault_text : Fault → List ℕ
-fault_text f =
-    codes "number from line field leg" ++ (10 ∷ (decimal f.number ++ (codes " " ++ (origin_name f.from ++ (codes " " ++ (decimal f.line ++ (codes " " ++ (decimal f.field ++ (codes " " ++ decimal f.leg)))))))))
-
 -- A refusal's figures, 0 where one does not apply: only a sheet's lies in a line and a field, only the others' in a leg.
 abbrev pub fault_of : Refusal → Fault
 fault_of (refusal.Sheet e) = sheet_fault (figures_of e)
 fault_of (refusal.Planner e) = call_fault origin.Planner (loop_number e) (loop_leg e)
 fault_of (refusal.Listing e) = call_fault origin.Listing (listing_number e) (listing_leg e)
 
--- the names, and the values in their order, each in a line
+-- the line of names, and the line of the values in their order
 unfoldable pub fault_line : Fault → List ℕ
-fault_line f = fault_text f ++ 10 ∷ []
+fault_line f =
+    codes "number from line field leg" ++ (10 ∷ (decimal f.number ++ (codes " " ++ (origin_name f.from ++ (codes " " ++ (decimal f.line ++ (codes " " ++ (decimal f.field ++ (codes " " ++ (decimal f.leg ++ 10 ∷ []))))))))))
 
 -- a refusal as it is printed, by its figures
 abbrev pub refusal_text : Refusal → List ℕ
