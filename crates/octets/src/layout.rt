@@ -101,6 +101,12 @@ impl<'a> JumpSource for ByteSource<'a> {
 
     ghost goes = { λ s t u p q. (p.0 ∙ q.0, p.1 ∙ q.1, kept_on s.size t.size s.bytes.now t.bytes.now u.bytes.now p.1 p.2 q.2) };
 
+    ghost intact = { λ s t. s.bytes.now ≡ t.bytes.now };
+
+    ghost rests = { λ s. refl };
+
+    ghost passes = { λ s t u p q. p ∙ q };
+
     fn size(&self) -> Size {
         self.size
     }
@@ -110,10 +116,10 @@ impl<'a> JumpSource for ByteSource<'a> {
     }
 
     fn mark(&mut self, cell: Cell, open: bool) -> bool {
-        let Some(index) = self.size.index_of(cell) else {
+        let Some(at) = self.size.index_of(cell) else {
             return false;
         };
-        self.bytes[index] = if open { OPEN } else { CLOSED };
+        self.bytes[at] = if open { OPEN } else { CLOSED };
         true
     }
 

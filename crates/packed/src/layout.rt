@@ -97,6 +97,12 @@ impl<'a> JumpSource for PackedSource<'a> {
 
     ghost goes = { λ s t u p q. (p.0 ∙ q.0, p.1 ∙ q.1, kept_on s.size t.size s.words.now t.words.now u.words.now p.1 p.2 q.2) };
 
+    ghost intact = { λ s t. s.words.now ≡ t.words.now };
+
+    ghost rests = { λ s. refl };
+
+    ghost passes = { λ s t u p q. p ∙ q };
+
     fn size(&self) -> Size {
         self.size
     }

@@ -1,5 +1,5 @@
 // A planner over any source and any rate, and the two calls that change its floor.
-ghost use Rattle.std.specs.Prelude.{◌≡◌, ◌<◌, true, false};
+ghost use Rattle.std.specs.Prelude.{◌≡◌, ◌<◌, true, false, IfErr};
 ghost use Rattle.floor.specs.Plans.{closed};
 ghost use Rattle.planner.specs.Loops.{after, mark_answer};
 ghost use Rattle.planner.specs.Shutting.{shut_row};
@@ -18,9 +18,9 @@ pub struct Planner<S, R> {
 
 // Closes the cells of one row.
 fn close_row<S: JumpSource>(source: &mut S, row: usize)
-    requires { row < (S.JumpSource.meaning source.old).rows }
-    ensures plan { S.JumpSource.meaning source.new ≡ shut_row (S.JumpSource.meaning source.old) row (S.JumpSource.meaning source.old).cols }
-    ensures kept { S.JumpSource.lent source.old source.new }
+    requires { row < (S.meaning source.old).rows }
+    ensures plan { S.meaning source.new ≡ shut_row (S.meaning source.old) row (S.meaning source.old).cols }
+    ensures kept { S.lent source.old source.new }
 {
     for col in 0..source.size().cols {
         let _ = source.mark(Cell { row, col }, false);
@@ -29,8 +29,8 @@ fn close_row<S: JumpSource>(source: &mut S, row: usize)
 
 // Closes every cell.
 fn close_all<S: JumpSource>(source: &mut S)
-    ensures plan { S.JumpSource.meaning source.new ≡ closed (S.JumpSource.meaning source.old).rows (S.JumpSource.meaning source.old).cols }
-    ensures kept { S.JumpSource.lent source.old source.new }
+    ensures plan { S.meaning source.new ≡ closed (S.meaning source.old).rows (S.meaning source.old).cols }
+    ensures kept { S.lent source.old source.new }
 {
     for row in 0..source.size().rows {
         close_row(source, row);
@@ -41,29 +41,31 @@ fn close_all<S: JumpSource>(source: &mut S)
 impl<S: JumpSource, R: Rate> Planner<S, R> {
     // A fresh planner: no cell is open, whatever the source held.
     pub fn new(mut source: S, rate: R) -> Planner<S, R>
-        ensures plan { S.JumpSource.meaning result.source ≡ closed (S.JumpSource.meaning source).rows (S.JumpSource.meaning source).cols }
+        ensures plan { S.meaning result.source ≡ closed (S.meaning source).rows (S.meaning source).cols }
         ensures rate { result.rate ≡ rate }
-        ensures kept { S.JumpSource.lent source result.source }
+        ensures kept { S.lent source result.source }
     {
         close_all(&mut source);
         Planner { source, rate }
     }
 
-    // Opens a cell, and answers whether it was closed.
+    // Opens a cell, and answers whether it was closed. A refusal leaves plan, memory and rate as they were.
     pub fn open(&mut self, cell: Cell) -> Result<bool, Refusal>
-        ensures told { result ≡ mark_answer (S.JumpSource.meaning self.old.source) cell true }
-        ensures plan { S.JumpSource.meaning self.new.source ≡ after (S.JumpSource.meaning self.old.source) cell true }
-        ensures kept { S.JumpSource.lent self.old.source self.new.source }
+        ensures told { result ≡ mark_answer (S.meaning self.old.source) cell true }
+        ensures plan { S.meaning self.new.source ≡ after (S.meaning self.old.source) cell true }
+        ensures refused { IfErr result (λ e. S.intact self.old.source self.new.source) }
+        ensures kept { S.lent self.old.source self.new.source }
         ensures rate { self.new.rate ≡ self.old.rate }
     {
         mark(&mut self.source, cell, true)
     }
 
-    // Closes a cell, and answers whether it was open.
+    // Closes a cell, and answers whether it was open. A refusal leaves plan, memory and rate as they were.
     pub fn close(&mut self, cell: Cell) -> Result<bool, Refusal>
-        ensures told { result ≡ mark_answer (S.JumpSource.meaning self.old.source) cell false }
-        ensures plan { S.JumpSource.meaning self.new.source ≡ after (S.JumpSource.meaning self.old.source) cell false }
-        ensures kept { S.JumpSource.lent self.old.source self.new.source }
+        ensures told { result ≡ mark_answer (S.meaning self.old.source) cell false }
+        ensures plan { S.meaning self.new.source ≡ after (S.meaning self.old.source) cell false }
+        ensures refused { IfErr result (λ e. S.intact self.old.source self.new.source) }
+        ensures kept { S.lent self.old.source self.new.source }
         ensures rate { self.new.rate ≡ self.old.rate }
     {
         mark(&mut self.source, cell, false)
@@ -72,9 +74,10 @@ impl<S: JumpSource, R: Rate> Planner<S, R> {
 
 // Sets a cell, and answers whether that changed it. It looks before it marks.
 fn mark<S: JumpSource>(source: &mut S, cell: Cell, open: bool) -> Result<bool, Refusal>
-    ensures told { result ≡ mark_answer (S.JumpSource.meaning source.old) cell «open» }
-    ensures plan { S.JumpSource.meaning source.new ≡ after (S.JumpSource.meaning source.old) cell «open» }
-    ensures kept { S.JumpSource.lent source.old source.new }
+    ensures told { result ≡ mark_answer (S.meaning source.old) cell «open» }
+    ensures plan { S.meaning source.new ≡ after (S.meaning source.old) cell «open» }
+    ensures refused { IfErr result (λ e. S.intact source.old source.new) }
+    ensures kept { S.lent source.old source.new }
 {
     let was_open = source.is_open(cell);
     if source.mark(cell, open) {

@@ -17,6 +17,12 @@ impl<'b, S: JumpSource> JumpSource for &'b mut S {
 
     ghost goes = { λ s t u p q. (p.0 ∙ q.0, S.JumpSource.goes s.now t.now u.now p.1 q.1) };
 
+    ghost intact = { λ s t. (s.ghost_name ≡ t.ghost_name) × S.JumpSource.intact s.now t.now };
+
+    ghost rests = { λ s. (refl, S.JumpSource.rests s.now) };
+
+    ghost passes = { λ s t u p q. (p.0 ∙ q.0, S.JumpSource.passes s.now t.now u.now p.1 q.1) };
+
     fn size(&self) -> Size {
         (**self).size()
     }

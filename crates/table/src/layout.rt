@@ -87,6 +87,12 @@ impl<'a> JumpSource for TableSource<'a> {
 
     ghost goes = { λ s t u p q. (p.0 ∙ q.0, p.1 ∙ q.1, kept_on s.size t.size s.numbers.now t.numbers.now u.numbers.now p.1 p.2 q.2) };
 
+    ghost intact = { λ s t. s.numbers.now ≡ t.numbers.now };
+
+    ghost rests = { λ s. refl };
+
+    ghost passes = { λ s t u p q. p ∙ q };
+
     fn size(&self) -> Size {
         self.size
     }

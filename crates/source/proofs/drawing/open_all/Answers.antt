@@ -16,7 +16,7 @@ loop-cell-preserved g c =
     let one : g.S.JumpSource.meaning c.mark.new.self ≡ open_one q x =
     elim (cases_Bool (inside q x)) [
       | inl e ↦ c.mark.ensures.within e ∙ sym (cond-true (inside q x) (marked q x true) q e)
-      | inr e ↦ ap g.S.JumpSource.meaning (c.mark.ensures.outside e) ∙ sym (cond-false (inside q x) (marked q x true) q e)
+      | inr e ↦ c.mark.ensures.outside e ∙ sym (cond-false (inside q x) (marked q x true) q e)
     ] in (
       one ∙ ap (λ r. open_one r x) c.loop-cell.invariant.0 ∙ sym (fold_more open_one p c.args.cells.now c.loop-cell.cell-index corner c.loop-cell-test.true),
       g.S.JumpSource.goes _ _ _ c.loop-cell.invariant.1 c.mark.ensures.kept,

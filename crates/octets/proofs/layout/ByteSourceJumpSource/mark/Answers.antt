@@ -13,4 +13,4 @@ returns c =
     elim c.if-open.branch [ then-open w ↦ w.self-is ∙ ap written (sym w.if-open.true) | else-open w ↦ w.self-is ∙ ap written (sym w.if-open.false) ] in
     let marks = mark_by _ _ c.args.self.now.bytes.now c.args.cell c.args.open _ _ at value c.args.self.now.fits in
     let is_inside = (placed _ _ c.args.cell _ at).is_inside in
-    record { answer = sym is_inside; within = λ e. marks.0; outside = λ e. absurd (both_ways _ e is_inside); kept = (refl, refl, marks.1) }
+    record { answer = sym is_inside; within = λ e. marks.0; outside = λ e. absurd (both_ways _ e is_inside); intact = λ e. absurd (both_ways _ e is_inside); kept = (refl, refl, marks.1) }
