@@ -13,7 +13,7 @@ use Rattle.lengths.specs.declared.answers.Refusal.{Refusal}
 use Rattle.planner.specs.declared.answers.LoopRefusal.{LoopRefusal}
 use Rattle.lengths.specs.Questions.{first_no, length_questions}
 use Rattle.lengths.specs.Answers.{CostTold}
-use Rattle.planner.specs.Loops.{loop_questions, Looped, LoopBy, LoopTold}
+use Rattle.planner.specs.Loops.{loop_questions, Looped, LoopBy, LoopTold, NoCheaperTour}
 use Rattle.planner.proofs.Legs.{legs_length, few_cells}
 
 pub few_legs : (cells : List Cell) (l : ℕ) → first_no (loop_questions cells l) ≡ None → length (legs cells) ≤ 64
@@ -52,11 +52,11 @@ module _ (order : Counts → Counts → Comparison) (may : Laying) (p : Plan) (w
 
   module _ (law : Lawful order) (fair : Fair may) (z : Sized p) where
     -- no route for the whole loop is cheaper than the total
-    pub whole_loop : (cells : List Cell) (l : ℕ) (ns : List Counts) (r : Result Counts LoopRefusal) → LoopTold order may p cells w v l ns r →
-        (n : Counts) → r ≡ Ok n → (ms : List Counts) → Tour may p (legs cells) ms → AtLeast order (total ms) n
-    whole_loop cells l ns r h n e ms t = elim (loop_by cells l ns r h) [
+    pub whole_loop : (cells : List Cell) (l : ℕ) (ns : List Counts) (r : Result Counts LoopRefusal) → LoopTold order may p cells w v l ns r → NoCheaperTour order may p cells r
+    whole_loop cells l ns (Err e) h = tt
+    whole_loop cells l ns (Ok n) h = λ ms t. elim (loop_by cells l ns (Ok n) h) [
       | inl x ↦ absurd (let f = x.2 in let q : ◌≡◌ {A = ℕ} 0 1 = cc in omega arith)
       | inr x ↦
-          let a = all_legs ns 1 (legs cells) ns n (subst (λ q. Looped order may p w v ns 1 (legs cells) ns q) e x.1) in
+          let a = all_legs ns 1 (legs cells) ns n x.1 in
           subst (λ m. AtLeast order (total ms) m) (sym a.1) ((rivals order law may fair).whole p z (legs cells) (few_legs cells l x.0) ns a.0 ms t)
     ]

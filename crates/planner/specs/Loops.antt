@@ -1,11 +1,12 @@
 -- What open, close and a loop are answered, by the plan of that moment.
-use Rattle.std.specs.Prelude.{◌≡◌, ℕ, ◌+◌, Bool, true, false, cond, not, ◌&&◌, List, [], ◌∷◌, length, Some, None, Ok, Err, Option, Result, nat_le}
+use Rattle.std.specs.Prelude.{◌≡◌, ℕ, ◌+◌, Bool, true, false, cond, not, ◌&&◌, List, [], ◌∷◌, length, Some, None, Ok, Err, Option, Result, IfOk, nat_le}
 use Rattle.floor.specs.declared.Cell.{Cell}
 use Rattle.floor.specs.declared.Counts.{Counts}
 use Rattle.floor.specs.Plans.{Plan, inside, is_open, marked}
 use Rattle.floor.specs.Routes.{Laying}
 use Rattle.rate.specs.declared.Comparison.{Comparison}
-use Rattle.cheapest.specs.Cheapest.{Leg, legs, total}
+use Rattle.rate.specs.Laws.{AtLeast}
+use Rattle.cheapest.specs.Cheapest.{Leg, legs, total, Tour}
 use Rattle.lengths.specs.declared.answers.Refusal.{Refusal}
 use Rattle.lengths.specs.Questions.{number, Question, ask, first_no, mark_questions}
 use Rattle.lengths.specs.Answers.{LengthTold}
@@ -58,3 +59,7 @@ LoopBy order may p cells w v ns None r = Looped order may p w v ns 1 (legs cells
 -- a loop of cells with a leg list of length l
 abbrev pub LoopTold : (Counts → Counts → Comparison) → Laying → Plan → List Cell → ℕ → ℕ → ℕ → List Counts → Result Counts LoopRefusal → Type 0
 LoopTold order may p cells w v l ns r = LoopBy order may p cells w v ns (first_no (loop_questions cells l)) r
+
+-- where a loop through these cells is answered with a total, no route for the whole loop is cheaper
+abbrev pub NoCheaperTour : (Counts → Counts → Comparison) → Laying → Plan → List Cell → Result Counts LoopRefusal → Type 0
+NoCheaperTour order may p cells r = IfOk r (λ n. (ms : List Counts) → Tour may p (legs cells) ms → AtLeast order (total ms) n)

@@ -21,10 +21,14 @@ impl<S: JumpSource, R: Rate> Planner<S, R> {
         work: &mut Work<'_>,
         corners: &mut [Cell],
     ) -> Result<Drawn, Refusal>
-        ensures told { RouteTold (R.Rate.order self.now.rate) legal (S.JumpSource.meaning self.now.source) start target (length work.old.entries.now) (length work.old.waiting.now) (length corners.old) (take (corner_count result) corners.new) (drawn_costs result) }
-        ensures past { (corner_count result ≤ length corners.old) × (drop (corner_count result) corners.new ≡ drop (corner_count result) corners.old) }
-        ensures searched { LeftSearched (R.Rate.order self.now.rate) (S.JumpSource.meaning self.now.source) start target work.new result (λ n. n.measured) }
-        ensures rest { Spared (S.JumpSource.meaning self.now.source) work.old work.new }
+        ensures told { RouteTold (R.order self.now.rate) legal (S.meaning self.now.source) start target
+            (length work.old.entries.now) (length work.old.waiting.now) (length corners.old)
+            (take (corner_count result) corners.new) (drawn_costs result) }
+        ensures past { (corner_count result ≤ length corners.old) ×
+            (drop (corner_count result) corners.new ≡ drop (corner_count result) corners.old) }
+        ensures searched { LeftSearched (R.order self.now.rate) (S.meaning self.now.source) start target work.new result
+            (λ n. n.measured) }
+        ensures rest { Spared (S.meaning self.now.source) work.old work.new }
         ensures same { Untouched work.old work.new result }
     {
         draw(&self.source, &self.rate, start, target, work, corners)

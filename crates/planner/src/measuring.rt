@@ -20,9 +20,11 @@ impl<S: JumpSource, R: Rate> Planner<S, R> {
         target: Cell,
         work: &mut Work<'_>,
     ) -> Result<Measured, Refusal>
-        ensures told { LengthTold (R.Rate.order self.now.rate) legal (S.JumpSource.meaning self.now.source) start target (length work.old.entries.now) (length work.old.waiting.now) (costs result) }
-        ensures searched { LeftSearched (R.Rate.order self.now.rate) (S.JumpSource.meaning self.now.source) start target work.new result (λ n. n) }
-        ensures rest { Spared (S.JumpSource.meaning self.now.source) work.old work.new }
+        ensures told { LengthTold (R.order self.now.rate) legal (S.meaning self.now.source) start target
+            (length work.old.entries.now) (length work.old.waiting.now) (costs result) }
+        ensures searched { LeftSearched (R.order self.now.rate) (S.meaning self.now.source) start target work.new
+            result (λ n. n) }
+        ensures rest { Spared (S.meaning self.now.source) work.old work.new }
         ensures same { Untouched work.old work.new result }
     {
         measure(&self.source, &self.rate, start, target, work)

@@ -50,15 +50,17 @@ fn at_leg(leg: usize, answer: Result<Measured, Refusal>) -> Result<Measured, Loo
 }
 
 impl<S: JumpSource, R: Rate> Planner<S, R> {
-    // The total of the cheapest legs through these cells, the panel first, and the counts of each leg measured.
+    // The total of the cheapest legs through these cells, the panel first, and the counts of each leg measured. No route for the
+    // whole loop is cheaper than that total.
     pub fn tour(
         &self,
         cells: &[Cell],
         work: &mut Work<'_>,
         legs: &mut [Counts],
     ) -> Result<Counts, LoopRefusal>
-        ensures told { Toured (R.Rate.order self.now.rate) legal (S.JumpSource.meaning self.now.source) cells.now (length work.old.entries.now) (length work.old.waiting.now) legs.old legs.new result }
-        ensures rest { Spared (S.JumpSource.meaning self.now.source) work.old work.new }
+        ensures told { Toured (R.order self.now.rate) legal (S.meaning self.now.source) cells.now
+            (length work.old.entries.now) (length work.old.waiting.now) legs.old legs.new result }
+        ensures rest { Spared (S.meaning self.now.source) work.old work.new }
         ensures same { IfErr result (λ e. Unsearched e → work.new ≡ work.old) }
     {
         check(cells, legs.len())?;

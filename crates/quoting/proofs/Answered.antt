@@ -16,10 +16,10 @@ use Rattle.lengths.specs.Questions.{ask}
 use Rattle.lengths.proofs.Asked.{yes_first}
 use Rattle.planner.specs.declared.answers.LoopRefusal.{LoopRefusal}
 use Rattle.planner.specs.declared.answers.LoopRefusal.TheVariants.{CellCount, ShortLegs}
-use Rattle.planner.specs.Loops.{LoopTold}
+use Rattle.planner.specs.Loops.{LoopTold, NoCheaperTour}
 use Rattle.planner.specs.Touring.{Toured}
 use Rattle.planner.proofs.Legs.{legs_length, few_cells}
-use Rattle.planner.proofs.Wholes.{all_legs, loop_by, whole_loop}
+use Rattle.planner.proofs.Wholes.{all_legs, loop_by}
 use Rattle.listing.specs.declared.millimetres.Refusal.{Refusal}
 use Rattle.listing.specs.Millimetres.{refusal}
 use Rattle.listing.specs.Lines.{or_later, first_refused, listing_refusal}
@@ -47,8 +47,8 @@ pub record Whole (p : Plan) (cells : List Cell) (ns : List Counts) (n : Counts) 
   pub few : length cells ≤ 64
   pub least : (ms : List Counts) → Tour legal p (legs cells) ms → AtLeast exact (total ms) (total ns)
 
-pub whole : (p : Plan) → Sized p → (cells : List Cell) (w v l : ℕ) (ns : List Counts) (n : Counts) → LoopTold exact legal p cells w v l ns (Ok n) → Whole p cells ns n
-whole p z cells w v l ns n told = elim (loop_by exact legal p w v cells l ns (Ok n) told) [
+pub whole : (p : Plan) (cells : List Cell) (w v l : ℕ) (ns : List Counts) (n : Counts) → LoopTold exact legal p cells w v l ns (Ok n) → NoCheaperTour exact legal p cells (Ok n) → Whole p cells ns n
+whole p cells w v l ns n told least = elim (loop_by exact legal p w v cells l ns (Ok n) told) [
   | inl x ↦ absurd (let f = x.2 in let y : ◌≡◌ {A = ℕ} 0 1 = cc in omega arith)
   | inr x ↦
       let every = all_legs exact legal p w v ns 1 (legs cells) ns n x.1 in
@@ -58,7 +58,7 @@ whole p z cells w v l ns n told = elim (loop_by exact legal p w v cells l ns (Ok
         sum = every.1;
         some = leb-true 2 (length cells) (and_parts (leb 2 (length cells)) (leb (length cells) 64) asked.0).0;
         few = (few_cells cells l x.0).0;
-        least = λ ms t. subst (λ (m : Counts). AtLeast exact (total ms) m) every.1 (whole_loop exact legal p w v exact_lawful legal_fair z cells l ns (Ok n) told n refl ms t);
+        least = λ ms t. subst (λ (m : Counts). AtLeast exact (total ms) m) every.1 (least ms t);
       }
 ]
 

@@ -9,7 +9,7 @@ use Rattle.floor.specs.Plans.{Plan, Sized, legal}
 use Rattle.rate.specs.Exact.{exact}
 use Rattle.cheapest.specs.Cheapest.{legs}
 use Rattle.planner.specs.declared.answers.LoopRefusal.{LoopRefusal}
-use Rattle.planner.specs.Loops.{LoopTold}
+use Rattle.planner.specs.Loops.{LoopTold, NoCheaperTour}
 use Rattle.planner.specs.Touring.{Toured}
 use Rattle.planner.proofs.Legs.{legs_length}
 use Rattle.writing.specs.Fronts.{over}
@@ -34,7 +34,9 @@ module _ (p : Plan) (z : Sized p) (run stops : List Cell) (same : stops ≡ run)
 
   module _ (n : Counts) (is : r ≡ Ok n) where
     answered : Whole p run t.measured n
-    answered = whole p z run 2048 2048 (length before) t.measured n (subst (LoopTold exact legal p run 2048 2048 (length before) t.measured) is told)
+    answered =
+        whole p run 2048 2048 (length before) t.measured n (subst (LoopTold exact legal p run 2048 2048 (length before) t.measured) is told)
+        (subst (NoCheaperTour exact legal p run) is (subst (λ (cells : List Cell). NoCheaperTour exact legal p cells r) same t.whole))
 
     written : (count : ℕ) → count ≡ length run → take (count - 0) after ≡ t.measured
     written count long =
@@ -67,7 +69,7 @@ returns-clause-quoted c =
     let legs = written (floor_of es) z (run_of es) _ stops _ _ _ c.tour.ensures.told n is c.len.result count in
     let room : length page ≡ 4096 = omega arith in
     let fine = ap (λ (m : ℕ). listing_refusal 1000 c.tour.ensures.told.measured m) room ∙ never_refused (floor_of es) z (run_of es) _ n done in
-    let text = printed _ page _ _ fine (subst (λ (ns : List Counts). Listed 1000 ns page c.list.new.buffer c.list.result) legs c.list.ensures) in
+    let text = printed _ page _ _ fine (subst (λ (ns : List Counts). Listed 1000 ns page c.list.new.buffer c.list.result) legs c.list.ensures.listed) in
     subst (OncePrinted (λ after q. QuotedLoop page after q es) page c.list.new.buffer) (sym (MatchResult-at_ok _ _ text.0 text.1 c.map_err-2.ensures.cases))
     (record {
       counts = c.tour.ensures.told.measured;

@@ -6,6 +6,7 @@ use Rattle.std.proofs.lemmas.List.{take_more_set, drop-set-lt}
 use Rattle.floor.specs.declared.Counts.{Counts}
 use Rattle.floor.specs.Tally.{steps}
 use Rattle.floor.specs.Plans.{legal}
+use Rattle.floor.proofs.Legal.{legal_fair}
 use Rattle.cheapest.specs.Cheapest.{Leg, legs}
 use Rattle.cheapest.specs.Claims.{longest}
 use Rattle.lengths.specs.declared.answers.Refusal.{Refusal}
@@ -18,6 +19,7 @@ use Rattle.planner.specs.declared.answers.LoopRefusal.TheVariants as loop
 use Rattle.planner.specs.Loops.{loop_questions}
 use Rattle.planner.specs.Touring.{between, Toured}
 use Rattle.planner.proofs.Legs.{front_kept, drop_one_more, few_cells, few_steps, told_as_long, Underway, start, on, stop, finish, told_all}
+use Rattle.planner.proofs.Wholes.{whole_loop}
 use Rattle.planner.proofs.marking.Planner.tour.Goals as goal
 
 -- what was measured, or the refusal that the loop names the leg of
@@ -122,6 +124,7 @@ returns-in_err-measured-clause-told g c =
       written = front_kept i c.loop-i.legs c.args.legs.now room c.loop-i.invariant.left;
       told = told_all order p cells w v (length c.args.legs.now) front (Err (loop.Leg (i + 1) d.0)) q
           (stop order p cells w v i front c.loop-i.total c.loop-i.invariant.legs s t turn here d.0 told);
+      whole = tt;
     })
 
 pub returns-clause-told : goal.returns-clause-told
@@ -137,9 +140,10 @@ returns-clause-told g c =
     let fits = (few_cells cells (length c.args.legs.now) q).1 in
     let room : i ≤ length c.loop-i.legs = omega (arith, c.loop-i.auto.legs, c.loop-i.auto.i-end) in
     let past : length cells ≤ i = omega arith in
+    let told = told_all order p cells w v (length c.args.legs.now) front (Ok c.loop-i.total) q (finish order p cells w v i front c.loop-i.total c.loop-i.invariant.legs past) in
     record {
       measured = front;
       written = front_kept i c.loop-i.legs c.args.legs.now room c.loop-i.invariant.left;
-      told = told_all order p cells w v (length c.args.legs.now) front (Ok c.loop-i.total) q
-          (finish order p cells w v i front c.loop-i.total c.loop-i.invariant.legs past);
+      told = told;
+      whole = whole_loop order legal p w v (g.R.Rate.lawful c.args.self.now.rate) legal_fair (g.S.JumpSource.sized c.args.self.now.source) cells (length c.args.legs.now) front (Ok c.loop-i.total) told;
     }
