@@ -11,13 +11,13 @@ use Rattle.sheet.specs.declared.columns.Column.{Column}
 use Rattle.sheet.specs.declared.columns.Column.TheVariants as column
 use Rattle.sheet.specs.declared.Entry.{Entry}
 use Rattle.sheet.specs.declared.Mark.{Mark}
-use Rattle.sheet.specs.declared.Mark.TheVariants.{Open}
+use Rattle.sheet.specs.declared.Mark.TheVariants.{Open, Panel, Device}
 use Rattle.sheet.specs.declared.columns.Names.{Names}
 use Rattle.sheet.specs.declared.refusals.Refusal.{Refusal}
-use Rattle.sheet.specs.declared.refusals.Refusal.TheVariants.{FieldCount}
+use Rattle.sheet.specs.declared.refusals.Refusal.TheVariants.{FieldCount, BadField}
 use Rattle.sheet.specs.Format.{pieces, fields, three, same_column, each_once, as_column, as_names, within, as_coordinate, as_mark, entry_at, filled, and_then, entry_of, as_entry}
 use Rattle.sheet.proofs.Splits.{without_feed}
-use Rattle.sheet.specs.Laws.{Unbroken, name_of, Holds, Named, Valued, FormatLaws}
+use Rattle.sheet.specs.Laws.{Unbroken, name_of, sign_of, Holds, EachOnce, Named, Valued, FormatLaws}
 
 -- pieces
 
@@ -45,7 +45,7 @@ unique_first : (s : ℕ) (p text : List ℕ) → Unbroken s p → pieces s (p ++
 unique_first s [] text u = cond-true _ _ _ (eq-eqb s s refl)
 unique_first s (b ∷ p) text u = one_ahead s b (p ++ s ∷ text) u.0 ∙ ap (onto_first b) (unique_first s p text u.1)
 
-unique : (s : ℕ) (p : List ℕ) (more : List (List ℕ)) → AllByRecursion (Unbroken s) (p ∷ more) → pieces s (join_with_byte s (p ∷ more)) ≡ p ∷ more
+pub unique : (s : ℕ) (p : List ℕ) (more : List (List ℕ)) → AllByRecursion (Unbroken s) (p ∷ more) → pieces s (join_with_byte s (p ∷ more)) ≡ p ∷ more
 unique s p [] all = unique_last s p all.0
 unique s p (q ∷ more) all = unique_first s p (join_with_byte s (q ∷ more)) all.0 ∙ ap (λ ps. p ∷ ps) (unique s q more all.1)
 
@@ -57,13 +57,13 @@ one_digit d low high = cond-true _ _ _ (and_from _ _ (le-leb 48 d low) (le-leb d
 teen : (e : ℕ) → 48 ≤ e → e ≤ 53 → as_coordinate (49 ∷ e ∷ []) ≡ Some (10 + (e - 48))
 teen e low high = cond-true _ _ _ (and_from _ _ (eq-eqb 49 49 refl) (and_from _ _ (le-leb 48 e low) (le-leb e 53 high)))
 
-decimal_teen : (n : ℕ) → 10 ≤ n → n ≤ 15 → decimal n ≡ 49 ∷ (48 + (n - 10)) ∷ []
+pub decimal_teen : (n : ℕ) → 10 ≤ n → n ≤ 15 → decimal n ≡ 49 ∷ (48 + (n - 10)) ∷ []
 decimal_teen n low high =
     let one : n / 10 ≡ 1 = omega arith in
     let rest : n % 10 ≡ n - 10 = omega arith in
     decimal_step n low (omega arith) ∙ (λ i. (ap decimal one ∙ decimal_digit 1 (omega arith)) i ++ (48 + rest i) ∷ [])
 
-written : (n : ℕ) → n ≤ 15 → as_coordinate (decimal n) ≡ Some n
+pub written : (n : ℕ) → n ≤ 15 → as_coordinate (decimal n) ≡ Some n
 written n few =
     ⊎_elim
     (λ small. ap as_coordinate (decimal_digit n small) ∙ one_digit (48 + n) (omega arith) (omega arith) ∙ ap Some (let e : 48 + n - 48 ≡ n = omega arith in e))
@@ -71,7 +71,7 @@ written n few =
     (cases_lt n 10)
 
 -- what a test let through
-let_through : {X : Type 0} (t : Bool) (x y : X) → cond t (Some x) None ≡ Some y → (t ≡ true) × (x ≡ y)
+pub let_through : {X : Type 0} (t : Bool) (x y : X) → cond t (Some x) None ≡ Some y → (t ≡ true) × (x ≡ y)
 let_through true x y h = (refl, cc)
 let_through false x y h = absurd (let z : ◌≡◌ {A = ℕ} 0 1 = cc in omega arith)
 
@@ -97,9 +97,31 @@ numbers (d ∷ e ∷ []) n h =
     (omega arith, (λ i. one i ∷ back i ∷ []) ∙ sym (decimal_teen n (omega arith) (omega arith)))
 numbers (d ∷ e ∷ f ∷ more) n h = absurd (let z : ◌≡◌ {A = ℕ} 0 1 = cc in omega arith)
 
+-- marks
+
+pub signed : (m : Mark) → as_mark (sign_of m) ≡ Some m
+signed Open = refl
+signed Panel = refl
+signed Device = refl
+
+signs : (bytes : List ℕ) (m : Mark) → as_mark bytes ≡ Some m → bytes ≡ sign_of m
+signs [] m h = cc
+signs (b ∷ []) m h =
+    ⊎_elim (λ point. at Open (ap (λ x. x ∷ []) (eqb-true b 46 point)) (sym (cond-true _ _ _ point) ∙ h))
+    (λ not-point. ⊎_elim (λ panel. at Panel (ap (λ x. x ∷ []) (eqb-true b 80 panel)) (sym (cond-false _ _ _ not-point ∙ cond-true _ _ _ panel) ∙ h))
+    (λ not-panel.
+    let last = let_through (eqb b 68) Device m (sym (cond-false _ _ _ not-point ∙ cond-false _ _ _ not-panel) ∙ h) in
+    at Device (ap (λ x. x ∷ []) (eqb-true b 68 last.0)) (ap Some last.1))
+    (cases_Bool (eqb b 80)))
+    (cases_Bool (eqb b 46))
+  where
+    at : (k : Mark) → b ∷ [] ≡ sign_of k → ◌≡◌ {A = Option Mark} (Some k) (Some m) → b ∷ [] ≡ sign_of m
+    at k same is = let e : k ≡ m = cc in same ∙ ap sign_of e
+signs (b ∷ c ∷ more) m h = cc
+
 -- names and values
 
-three_is : {X : Type 0} (xs : List X) (f : X × X × X) → three xs ≡ Some f → xs ≡ f.0 ∷ f.1 ∷ f.2 ∷ []
+pub three_is : {X : Type 0} (xs : List X) (f : X × X × X) → three xs ≡ Some f → xs ≡ f.0 ∷ f.1 ∷ f.2 ∷ []
 three_is [] f h = absurd (let z : ◌≡◌ {A = ℕ} 0 1 = cc in omega arith)
 three_is (a ∷ []) f h = absurd (let z : ◌≡◌ {A = ℕ} 0 1 = cc in omega arith)
 three_is (a ∷ b ∷ []) f h = absurd (let z : ◌≡◌ {A = ℕ} 0 1 = cc in omega arith)
@@ -127,9 +149,7 @@ record Once (a b c : Option Column) (ns : Names) : Type 0 where
   is_first : a ≡ Some ns.first
   is_second : b ≡ Some ns.second
   is_third : c ≡ Some ns.third
-  first_second : same_column ns.first ns.second ≡ false
-  second_third : same_column ns.second ns.third ≡ false
-  first_third : same_column ns.first ns.third ≡ false
+  distinct : EachOnce ns
 
 once : (a b c : Option Column) (ns : Names) → each_once a b c ≡ Some ns → Once a b c ns
 once None b c ns h = absurd (let z : ◌≡◌ {A = ℕ} 0 1 = cc in omega arith)
@@ -143,12 +163,16 @@ once (Some a) (Some b) (Some c) ns h =
       is_first = ap (λ (n : Names). Some n.first) t.1;
       is_second = ap (λ (n : Names). Some n.second) t.1;
       is_third = ap (λ (n : Names). Some n.third) t.1;
-      first_second = subst (λ (n : Names). same_column n.first n.second ≡ false) t.1 (not-true (same_column a b) p.0);
-      second_third = subst (λ (n : Names). same_column n.second n.third ≡ false) t.1 (not-true (same_column b c) q.0);
-      first_third = subst (λ (n : Names). same_column n.first n.third ≡ false) t.1 (not-true (same_column a c) q.1);
+      distinct = subst EachOnce t.1 (record { first_second = not-true (same_column a b) p.0; second_third = not-true (same_column b c) q.0; first_third = not-true (same_column a c) q.1 });
     }
 
-names : (line : List ℕ) (ns : Names) → as_names line ≡ Some ns → Named line ns
+-- and the other way: three columns that differ are taken as they stand
+once_read : (ns : Names) → EachOnce ns → each_once (Some ns.first) (Some ns.second) (Some ns.third) ≡ Some ns
+once_read ns distinct =
+    cond-true _ _ _
+    (and_from _ _ (ap not distinct.first_second) (and_from _ _ (ap not distinct.second_third) (ap not distinct.first_third)))
+
+pub names : (line : List ℕ) (ns : Names) → as_names line ≡ Some ns → Named line ns
 names line ns h = at (three (fields line)) refl h where
   at : (o : Option (List ℕ × List ℕ × List ℕ)) → three (fields line) ≡ o → elim o [ None ↦ None | Some f ↦ each_once (as_column f.0) (as_column f.1) (as_column f.2) ] ≡ Some ns → Named line ns
   at None is k = absurd (let z : ◌≡◌ {A = ℕ} 0 1 = cc in omega arith)
@@ -159,10 +183,18 @@ names line ns h = at (three (fields line)) refl h where
       let c = column_named f.2 ns.third o.is_third in
       record {
         words = three_is (fields line) f is ∙ (λ i. a i ∷ b i ∷ c i ∷ []);
-        first_second = o.first_second;
-        second_third = o.second_third;
-        first_third = o.first_third;
+        each_once = o.distinct;
       }
+
+name_read : (c : Column) → as_column (name_of c) ≡ Some c
+name_read column.Row = refl
+name_read column.Col = refl
+name_read column.Mark = refl
+
+pub names_read : (line : List ℕ) (ns : Names) → Named line ns → as_names line ≡ Some ns
+names_read line ns named =
+    ap (λ fs. elim (three fs) [ None ↦ None | Some f ↦ each_once (as_column f.0) (as_column f.1) (as_column f.2) ]) named.words
+    ∙ (λ i. each_once (name_read ns.first i) (name_read ns.second i) (name_read ns.third i)) ∙ once_read ns named.each_once
 
 -- a field that is right fills its column's place, and leaves the others
 record Fills (c : Column) (bytes : List ℕ) (e e' : Entry) : Type 0 where
@@ -215,8 +247,8 @@ same_either column.Mark column.Row = refl
 same_either column.Mark column.Col = refl
 same_either column.Mark column.Mark = refl
 
-values : (line : List ℕ) (ns : Names) (first : List ℕ) (n : ℕ) (e : Entry) → Named first ns → as_entry ns n line ≡ Ok e → Valued line ns n e
-values line ns first n e named h = at (three (fields line)) refl h where
+pub values : (line : List ℕ) (ns : Names) (n : ℕ) (e : Entry) → EachOnce ns → as_entry ns n line ≡ Ok e → Valued line ns n e
+values line ns n e distinct h = at (three (fields line)) refl h where
   at : (o : Option (List ℕ × List ℕ × List ℕ)) → three (fields line) ≡ o → ◌≡◌ {A = Result Entry Refusal} (elim o [ None ↦ Err (FieldCount n) | Some f ↦ entry_of ns n f ]) (Ok e) → Valued line ns n e
   at None is k = absurd (let z : ◌≡◌ {A = ℕ} 0 1 = cc in omega arith)
   at (Some f) is k =
@@ -231,13 +263,59 @@ values line ns first n e named h = at (three (fields line)) refl h where
         third = f.2;
         three = three_is (fields line) f is;
         holds_first =
-            c.others ns.first f.0 (same_either ns.third ns.first ∙ named.first_third)
-            (b.others ns.first f.0 (same_either ns.second ns.first ∙ named.first_second) a.here);
-        holds_second = c.others ns.second f.1 (same_either ns.third ns.second ∙ named.second_third) b.here;
+            c.others ns.first f.0 (same_either ns.third ns.first ∙ distinct.first_third)
+            (b.others ns.first f.0 (same_either ns.second ns.first ∙ distinct.first_second) a.here);
+        holds_second = c.others ns.second f.1 (same_either ns.third ns.second ∙ distinct.second_third) b.here;
         holds_third = c.here;
         numbered = c.kept ∙ b.kept ∙ a.kept;
       }
 
+-- an entry whose column has a value already keeps it: what is filled in is the part of e in that column
+abbrev put : Column → Entry → Entry → Entry
+put column.Row e x = entry_at e.cell.row x.cell.col x.mark x.line
+put column.Col e x = entry_at x.cell.row e.cell.col x.mark x.line
+put column.Mark e x = entry_at x.cell.row x.cell.col e.mark x.line
+
+filled_read : (c : Column) (bytes : List ℕ) (l k : ℕ) (e x : Entry) → Holds c bytes e → filled c bytes l k x ≡ Ok (put c e x)
+filled_read column.Row bytes l k e x h = ap (λ o. ok_or (option_map (λ n. entry_at n x.cell.col x.mark x.line) o) (BadField l k)) h
+filled_read column.Col bytes l k e x h = ap (λ o. ok_or (option_map (λ n. entry_at x.cell.row n x.mark x.line) o) (BadField l k)) h
+filled_read column.Mark bytes l k e x h = ap (λ o. ok_or (option_map (λ m. entry_at x.cell.row x.cell.col m x.line) o) (BadField l k)) h
+
+-- three columns that differ are all there are
+all_put : (a b c : Column) (e x : Entry) → same_column a b ≡ false → same_column b c ≡ false → same_column a c ≡ false → put c e (put b e (put a e x)) ≡ entry_at e.cell.row e.cell.col e.mark x.line
+all_put column.Row column.Col column.Mark e x p q r = refl
+all_put column.Row column.Mark column.Col e x p q r = refl
+all_put column.Col column.Row column.Mark e x p q r = refl
+all_put column.Col column.Mark column.Row e x p q r = refl
+all_put column.Mark column.Row column.Col e x p q r = refl
+all_put column.Mark column.Col column.Row e x p q r = refl
+all_put a b c e x p q r = cc
+
+pub values_read : (line : List ℕ) (ns : Names) (n : ℕ) (e : Entry) → EachOnce ns → Valued line ns n e → as_entry ns n line ≡ Ok e
+values_read line ns n e distinct v =
+    let blank = entry_at 0 0 Open n in
+    let one = put ns.first e blank in
+    let two = put ns.second e one in
+    ap (λ fs. elim (three fs) [ None ↦ Err (FieldCount n) | Some f ↦ entry_of ns n f ]) v.three
+    ∙ ap (λ r. and_then r (λ x. and_then (filled ns.second v.second n 2 x) (λ y. filled ns.third v.third n 3 y))) (filled_read ns.first v.first n 1 e blank v.holds_first)
+    ∙ ap (λ r. and_then r (λ y. filled ns.third v.third n 3 y)) (filled_read ns.second v.second n 2 e one v.holds_second)
+    ∙ filled_read ns.third v.third n 3 e two v.holds_third
+    ∙ ap Ok (all_put ns.first ns.second ns.third e blank distinct.first_second distinct.second_third distinct.first_third)
+    ∙ ap (λ l. Ok (entry_at e.cell.row e.cell.col e.mark l)) (sym v.numbered)
+
 pub format_laws : FormatLaws
 format_laws =
-    record { rejoined = join_with_byte-slice_split; unbroken = unbroken; unique = unique; ended = λ text. ap (pieces 10) (without_feed text); written = written; numbers = numbers; names = names; values = values }
+    record {
+      rejoined = join_with_byte-slice_split;
+      unbroken = unbroken;
+      unique = unique;
+      ended = λ text. ap (pieces 10) (without_feed text);
+      written = written;
+      numbers = numbers;
+      signed = signed;
+      signs = signs;
+      names = names;
+      names_read = names_read;
+      values = values;
+      values_read = values_read;
+    }

@@ -3,3 +3,6 @@ pub mod Sound
 pub mod Steps
 pub mod Marked
 pub mod Laws
+pub mod Faulted
+pub mod Told
+pub mod Written

@@ -8,7 +8,7 @@ use Rattle.std.proofs.ByRecursion.{All-push, All-get_or}
 use Rattle.std.proofs.lemmas.List.{length-append, length-map, length_push, get_or-map, get_or_push, get_or_append_left, map_push}
 use Rattle.std.proofs.lemmas.Bool.{cond_both, and_parts, and_from, or_parts, or_from, or_cases, leb-true, eq-eqb, eqb-true, ne_eqb, cases_lt, both_ways}
 use Rattle.std.proofs.lemmas.List.Folds.{list_any-append}
-use Rattle.std.proofs.lemmas.Map.Keys.{IsDistinct-push, apart_from_distinct}
+use Rattle.std.proofs.lemmas.Map.Keys.{IsDistinct-push, IsDistinct-from_apart, apart_from_distinct}
 use Rattle.std.proofs.lemmas.Map.Steps.{length-le_from_distinct_below}
 use Rattle.std.proofs.Math.Bool.{or-false}
 use Rattle.floor.specs.declared.Cell.{Cell}
@@ -152,8 +152,24 @@ places_low q [] a found = cc
 places_low q (e ∷ es) a found = ⊎_elim (λ here. let is = eqb-true q (place e) here in omega (arith, a.0.0, a.0.1)) (places_low q es a.1) (or_cases (eqb q (place e)) _ found)
 
 -- a floor of 16 by 16 has 256 cells
+few_places : (es : List Entry) → AllByRecursion (λ e. (e.cell.row ≤ 15) × (e.cell.col ≤ 15)) es → IsDistinct eqb (map place es) → length es ≤ 256
+few_places es on distinct = subst (λ n. n ≤ 256) (length-map es place) (length-le_from_distinct_below (map place es) 256 distinct (λ q. places_low q es on))
+
+pub few_cells : (es : List Entry) → AllByRecursion (λ e. (e.cell.row ≤ 15) × (e.cell.col ≤ 15)) es → ((i j : ℕ) (d : Entry) → i < j → j < length es → same_cell (get_or es i d).cell (get_or es j d).cell ≡ true → ⊥) → length es ≤ 256
+few_cells es on differ = few_places es on (IsDistinct-from_apart eqb (map place es) apart_places)
+  where
+    apart_places : (i j : ℕ) (d : ℕ) → i < j → j < length (map place es) → eqb (get_or (map place es) i d) (get_or (map place es) j d) ≡ false
+    apart_places i j d before low =
+        let none : Entry = entry_at 0 0 Open 0 in
+        let many = length-map es place in
+        let last : j < length es = omega arith in
+        let first : i < length es = omega arith in
+        let a = All-get_or _ es i none first on in
+        let b = All-get_or _ es j none last on in
+        ne_eqb _ _ (λ same. differ i j none before last (same_place (get_or es i none) (get_or es j none) a.0 a.1 b.0 b.1 (sym (get_or-map place es i none d first) ∙ same ∙ get_or-map place es j none d last)))
+
 pub sound_few : (es : List Entry) → Sound es → length es ≤ 256
-sound_few es h = subst (λ n. n ≤ 256) (length-map es place) (length-le_from_distinct_below (map place es) 256 h.apart (λ q. places_low q es h.on_floor))
+sound_few es h = few_places es h.on_floor h.apart
 
 pub accepted : (es : List Entry) → Sound es → has_panel es ≡ true → Accepted es
 accepted es h one =

@@ -46,15 +46,15 @@ start names old text first left split is =
       sound = sound_none;
     }
 
-reads_on : (names : Names) (n : ℕ) (seen : List Entry) (line : List ℕ) (more : List (List ℕ)) (e : Entry) → added names n seen line ≡ Ok e → read_on names n seen (line ∷ more) ≡ read_on names (n + 1) (seen ++ e ∷ []) more
+pub reads_on : (names : Names) (n : ℕ) (seen : List Entry) (line : List ℕ) (more : List (List ℕ)) (e : Entry) → added names n seen line ≡ Ok e → read_on names n seen (line ∷ more) ≡ read_on names (n + 1) (seen ++ e ∷ []) more
 unfolding read_on
 reads_on names n seen line more e is = ap (λ r. onward r seen (λ x. read_on names (n + 1) (seen ++ x ∷ []) more)) is
 
-read_stop : (names : Names) (n : ℕ) (seen : List Entry) (line : List ℕ) (more : List (List ℕ)) (f : Refusal) → added names n seen line ≡ Err f → read_on names n seen (line ∷ more) ≡ reading seen (Some f)
+pub read_stop : (names : Names) (n : ℕ) (seen : List Entry) (line : List ℕ) (more : List (List ℕ)) (f : Refusal) → added names n seen line ≡ Err f → read_on names n seen (line ∷ more) ≡ reading seen (Some f)
 unfolding read_on
 read_stop names n seen line more f is = ap (λ r. onward r seen (λ x. read_on names (n + 1) (seen ++ x ∷ []) more)) is
 
-read_end : (names : Names) (n : ℕ) (seen : List Entry) → read_on names n seen [] ≡ reading seen (cond (has_panel seen) None (Some NoPanel))
+pub read_end : (names : Names) (n : ℕ) (seen : List Entry) → read_on names n seen [] ≡ reading seen (cond (has_panel seen) None (Some NoPanel))
 unfolding read_on
 read_end names n seen = refl
 

@@ -5,3 +5,6 @@ pub mod Accepted
 pub mod Run
 pub mod Refusals
 pub mod Laws
+pub mod Faults
+pub mod Written
+pub mod Readings

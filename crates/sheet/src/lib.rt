@@ -1,12 +1,14 @@
 // A sheet of marked cells: what it means, and the run that it asks for.
 #![tactic(auto)]
 
-ghost use Rattle.std.specs.Prelude.{◌≡◌, ◌+◌, ◌≤◌, length, take, IfOk};
+ghost use Rattle.std.specs.Prelude.{◌≡◌, ◌+◌, ◌≤◌, length, take, IfOk, IfErr};
 ghost use Rattle.writing.specs.Fronts.{Fits, Added};
 ghost use Rattle.sheet.specs.Format.{pieces, lines};
 ghost use Rattle.sheet.specs.Meaning.{named, has_panel, admitted, added, read_lines, reading_of, answered, over};
 ghost use Rattle.sheet.specs.Accepted.{Accepted};
 ghost use Rattle.sheet.specs.Laws.{FormatLaws};
+ghost use Rattle.sheet.specs.Faults.{Right, Refused};
+ghost use Rattle.sheet.specs.Readings.{ReadingLaws};
 ghost use Rattle.sheet.specs.Run.{cells_marked, run_of};
 
 mod columns;
@@ -117,6 +119,8 @@ pub fn read(sheet: &[u8], entries: &mut [Entry]) -> Result<usize, Refusal>
     ensures list { entries.new ≡ over (reading_of sheet.now (length entries.old)).meant entries.old }
     ensures few { IfOk result (λ n. n ≤ 256) }
     ensures accepted { IfOk result (λ n. (n + 1 ≡ length (lines sheet.now)) × Accepted (take n entries.new)) }
+    ensures right { IfOk result (λ n. Right sheet.now (take n entries.new)) }
+    ensures refused { IfErr result (Refused sheet.now entries.old entries.new) }
 {
     if sheet.len() > MAX_BYTES {
         return Err(Refusal::TooLong);
@@ -151,4 +155,9 @@ pub fn put_run(run: &mut Front<'_, Cell>, entries: &[Entry])
 // The laws of the format, for whoever reads its definition.
 pub fn format_laws_hold()
     ensures { FormatLaws }
+{}
+
+// The laws of whole sheets: what is right is read, the first fault is told, and what is written of entries is read back.
+pub fn reading_laws_hold()
+    ensures { ReadingLaws }
 {}
