@@ -1,9 +1,10 @@
 // The listing of a loop, leg by leg, at the front of a lent buffer.
-ghost use Rattle.std.specs.Prelude.{◌≡◌, ◌+◌, ◌<◌, ◌≤◌, ◌++◌, List, length, Some, None, decimal, MatchResult};
+ghost use Rattle.std.specs.Prelude.{◌≡◌, ◌+◌, ◌<◌, ◌≤◌, ◌++◌, List, length, Some, None, decimal, MatchResult, IfErr, OnOk};
 ghost use Rattle.writing.specs.Fronts.{Fits, Added};
 ghost use Rattle.listing.specs.declared.millimetres.Refusal.{Refusal as Refused};
 ghost use Rattle.listing.specs.Millimetres.{refusal, Figure};
 ghost use Rattle.listing.specs.Lines.{listing_number, listing_leg, of_leg, first_refused, Measures, AddsUp, plus_amount, in_all, values, leg_lines, listing_text, Listed};
+ghost use Rattle.listing.specs.Faulty.{Faulty, Faultless};
 
 use crate::millimetres::{Refusal, millimetres};
 use floor::Counts;
@@ -164,7 +165,9 @@ fn measure(
 // Writes the listing of a loop's legs, over cells of this side, to the front of a buffer, and answers how long it is.
 // Kept: it is a rule of the project that the buffer is lent.
 pub fn list(side: u32, legs: &[Counts], buffer: &mut [u8]) -> Result<usize, ListingRefusal>
-    ensures { Listed side legs.now buffer.old buffer.new result }
+    ensures listed { Listed side legs.now buffer.old buffer.new result }
+    ensures refused { IfErr result (Faulty side legs.now (length buffer.old)) }
+    ensures faultless { OnOk result (Faultless side legs.now (length buffer.old)) }
 {
     if !(FEWEST_LEGS..=MOST_LEGS).contains(&legs.len()) {
         return Err(ListingRefusal::LegCount);

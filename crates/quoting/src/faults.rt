@@ -1,8 +1,8 @@
 // Why a sheet is not quoted: a line of values, whose text is fixed, and a sentence.
-ghost use Rattle.std.specs.Prelude.{◌≡◌};
+ghost use Rattle.std.specs.Prelude.{◌≡◌, Some};
 ghost use Rattle.writing.specs.Fronts.{Wrote, Fits, Added};
 ghost use Rattle.sheet.specs.Refusals.{figures_of};
-ghost use Rattle.quoting.specs.Faults.{origin_name, sheet_fault, call_fault, fault_of, fault_line, refusal_text};
+ghost use Rattle.quoting.specs.Faults.{origin_name, sheet_fault, call_fault, fault_of, fault_line, refusal_text, leg_sentence, sentence};
 
 use crate::quotes::PAGE;
 use lengths::Refusal as CallRefusal;
@@ -131,6 +131,8 @@ pub fn put_refusal(bytes: &mut [u8; PAGE], refusal: Refusal) -> usize
 struct OfLeg(CallRefusal);
 
 impl Display for OfLeg {
+    ghost output = { λ o. Some (leg_sentence o.0) };
+
     fn fmt<W: fmt::Write>(&self, f: &mut fmt::Formatter<W>) -> fmt::Result {
         f.write_str(match self.0 {
             CallRefusal::Outside => "its start is outside the floor",
@@ -146,6 +148,8 @@ impl Display for OfLeg {
 
 // A refusal as a sentence for whoever wrote the sheet.
 impl Display for Refusal {
+    ghost output = { λ r. Some (sentence r) };
+
     fn fmt<W: fmt::Write>(&self, f: &mut fmt::Formatter<W>) -> fmt::Result {
         match *self {
             Refusal::Sheet(refusal) => write!(f, "{refusal}"),
