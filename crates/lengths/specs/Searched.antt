@@ -25,7 +25,9 @@ pub record CheapestChain (order : Counts → Counts → Comparison) (p : Plan) (
   pub chain : Chain p (point s) (point t) (place (point c) h) n
   pub least : (m : Counts) → Chain p (point s) (point t) (place (point c) h) m → AtLeast order m n
 
--- The entries of all places after a length was found. Left open are the number of finished places within these rules, and the entries that are not finished.
+-- The entries of all places after a length was found. Left open are the number of finished places within these rules, and the entries that
+-- are not finished. Left open too is the front of the waiting list: after a search its first slots, as many as there are places, hold anything.
+-- Past them it is as before, which `Spared` says.
 pub record Searched (order : Counts → Counts → Comparison) (p : Plan) (s t : Cell) (es : List Entry) (n : Measured) : Type 0 where
   -- the number answered is that of the entries marked finished, at most eight to an open cell, and 0 if start and target are one cell
   pub counted : n.finished ≡ finishes es
