@@ -1,6 +1,6 @@
 -- How many legs a loop measured can be read off its answer.
-use Rattle.std.proofs.Common.{◌≡◌, ℕ, ◌+◌, Bool, true, false, cond, ◌&&◌, leb, List, [], ◌∷◌, length, take, drop, Some, None, Ok, Err, Result, sym, refl, ap, ◌∙◌, inl, inr, arith}
-use Rattle.std.proofs.lemmas.List.{take_at}
+use Rattle.std.proofs.Common.{◌≡◌, ℕ, ◌+◌, ◌-◌, ◌≤◌, Bool, true, false, cond, ◌&&◌, leb, List, [], ◌∷◌, length, take, drop, Some, None, Ok, Err, Result, sym, refl, ap, ◌∙◌, inl, inr, arith}
+use Rattle.std.proofs.lemmas.List.{take_at, drop_at, length-append, length-drop}
 use Rattle.floor.specs.declared.Cell.{Cell}
 use Rattle.floor.specs.declared.Counts.{Counts}
 use Rattle.floor.specs.Plans.{Plan}
@@ -62,3 +62,17 @@ module _ (order : Counts → Counts → Comparison) (may : Laying) (p : Plan) (w
   measured_front cells before after r t =
       ap (take (measured_legs r (length cells))) t.written ∙
       take_at t.measured (drop (length t.measured) before) (measured_legs r (length cells)) (measured_count cells (length before) t.measured r t.told)
+
+  -- past it the leg list is as it was, and it is no longer than that
+  pub measured_past : (cells : List Cell) (before after : List Counts) (r : Result Counts LoopRefusal) (t : Toured order may p cells w v before after r) →
+      drop (measured_legs r (length cells)) after ≡ drop (measured_legs r (length cells)) before
+  measured_past cells before after r t =
+      let n = measured_count cells (length before) t.measured r t.told in
+      ap (drop (measured_legs r (length cells))) t.written ∙ drop_at t.measured (drop (length t.measured) before) (measured_legs r (length cells)) n ∙ ap (λ k. drop k before) n
+
+  pub measured_few : (cells : List Cell) (before after : List Counts) (r : Result Counts LoopRefusal) → Toured order may p cells w v before after r → length after ≡ length before → measured_legs r (length cells) ≤ length before
+  measured_few cells before after r t same =
+      let n = measured_count cells (length before) t.measured r t.told in
+      let long : length t.measured + (length before - length t.measured) ≡ length before =
+      sym (length-append t.measured (drop (length t.measured) before) ∙ ap (λ k. length t.measured + k) (length-drop (length t.measured) before)) ∙ sym (ap length t.written) ∙ same in
+      omega arith

@@ -1,5 +1,6 @@
 -- More open cells never cost more: the questions that were answered yes still are, and every route is still one.
-use Rattle.std.proofs.Common.{◌≡◌, ℕ, ◌+◌, ◌*◌, Bool, true, false, cond, ◌&&◌, ltb, leb, List, [], ◌∷◌, Some, None, Ok, Err, Option, Result, sym, refl, ap, ◌∙◌, subst, inl, inr, arith}
+use Rattle.std.proofs.Common.{◌≡◌, ℕ, ◌+◌, ◌*◌, true, cond, ◌&&◌, ltb, leb, List, [], ◌∷◌, Some, None, Ok, Err, Option, Result, sym, refl, ap, ◌∙◌, subst, inl, inr, arith}
+use Rattle.std.specs.Result.{result_ok}
 use Rattle.floor.specs.declared.Cell.{Cell}
 use Rattle.floor.specs.declared.Counts.{Counts}
 use Rattle.floor.specs.Plane.{point}
@@ -15,7 +16,7 @@ use Rattle.planner.specs.declared.answers.LoopRefusal.{LoopRefusal}
 use Rattle.lengths.specs.Questions.{Question, first_no, length_questions, route_questions}
 use Rattle.lengths.specs.Answers.{CostTold}
 use Rattle.planner.specs.Loops.{Looped, LoopTold}
-use Rattle.history.specs.Calls.{Asked, to_open, to_close, a_length, a_route, a_loop, Told, changed, cost, drawn, toured, Changed, Costed, Drawn, Toured, Right, length_in}
+use Rattle.history.specs.Calls.{Asked, to_open, to_close, a_length, a_route, a_loop, Told, Right, length_in}
 use Rattle.lengths.proofs.Asked.{yes_first}
 use Rattle.planner.proofs.Wholes.{legs_tour, all_legs, loop_by, few_legs}
 
@@ -91,60 +92,30 @@ module _ (order : Counts → Counts → Comparison) (law : Lawful order) (may : 
       ]
     ]
 
+  -- a length in x, then one in y that is no dearer
   abbrev KeptIn : Told → Told → Type 0
   KeptIn x y = (n : Counts) → length_in x ≡ Some n → (m : Counts) × (length_in y ≡ Some m) × AtLeast order n m
 
-  got : {E : Type 0} (r : Result Counts E) (n : Counts) → elim r as (λ _. Option Counts) [ Ok m ↦ Some m | Err e ↦ None ] ≡ Some n → r ≡ Ok n
+  got : {E : Type 0} (r : Result Counts E) (n : Counts) → result_ok r ≡ Some n → r ≡ Ok n
   got (Ok m) n e = cc
   got (Err f) n e = absurd (let z : ◌≡◌ {A = ℕ} 0 1 = cc in omega arith)
 
-  gives : {E : Type 0} (r : Result Counts E) (n : Counts) → r ≡ Ok n → elim r as (λ _. Option Counts) [ Ok m ↦ Some m | Err e ↦ None ] ≡ Some n
-  gives r n e = ap (λ u. elim u as (λ _. Option Counts) [ Ok m ↦ Some m | Err e ↦ None ]) e
+  no_length : {X : Type 0} (n : Counts) → ◌≡◌ {A = Option Counts} None (Some n) → X
+  no_length n e = absurd (let z : ◌≡◌ {A = ℕ} 0 1 = cc in omega arith)
 
-  costed_kept : (s t : Cell) (w v : ℕ) (x y : Told) → Costed order may p s t w v x → Costed order may q s t w v y → KeptIn x y
-  costed_kept s t w v (changed r) y h k = absurd h
-  costed_kept s t w v (cost r) (changed u) h k = absurd k
-  costed_kept s t w v (cost r) (cost u) h k = λ n e.
-      let a = cost_kept s t _ _ (all_yes (length_questions p s t w v) (length_questions q s t w v) (length_yes s t w v)) n u
-      (subst (λ z. CostTold order may p s t (first_no (length_questions p s t w v)) z) (got r n e) h) k in
-      (a.0, gives u a.0 a.1, a.2)
-  costed_kept s t w v (cost r) (drawn u ds) h k = absurd k
-  costed_kept s t w v (cost r) (toured u ms) h k = absurd k
-  costed_kept s t w v (drawn r cs) y h k = absurd h
-  costed_kept s t w v (toured r ns) y h k = absurd h
+  -- two answers that tell their lengths by results
+  by_results : {E : Type 0} (x y : Told) (r u : Result Counts E) → length_in x ≡ result_ok r → length_in y ≡ result_ok u →
+      ((n : Counts) → r ≡ Ok n → (m : Counts) × (u ≡ Ok m) × AtLeast order n m) → KeptIn x y
+  by_results x y r u e f h n k = let a = h n (got r n (sym e ∙ k)) in (a.0, f ∙ ap result_ok a.1, a.2)
 
-  drawn_kept : (s t : Cell) (w v c : ℕ) (x y : Told) → Drawn order may p s t w v c x → Drawn order may q s t w v c y → KeptIn x y
-  drawn_kept s t w v c (changed r) y h k = absurd h
-  drawn_kept s t w v c (cost r) y h k = absurd h
-  drawn_kept s t w v c (drawn r cs) (changed u) h k = absurd k
-  drawn_kept s t w v c (drawn r cs) (cost u) h k = absurd k
-  drawn_kept s t w v c (drawn r cs) (drawn u ds) h k = λ n e.
-      let a = cost_kept s t _ _ (all_yes (route_questions p s t w v c) (route_questions q s t w v c) (route_yes s t w v c)) n u
-      (subst (λ z. CostTold order may p s t (first_no (route_questions p s t w v c)) z) (got r n e) h.0) k.0 in
-      (a.0, gives u a.0 a.1, a.2)
-  drawn_kept s t w v c (drawn r cs) (toured u ms) h k = absurd k
-  drawn_kept s t w v c (toured r ns) y h k = absurd h
-
-  toured_kept : (cells : List Cell) (w v l : ℕ) (x y : Told) → Toured order may p cells w v l x → Toured order may q cells w v l y → KeptIn x y
-  toured_kept cells w v l (changed r) y h k = absurd h
-  toured_kept cells w v l (cost r) y h k = absurd h
-  toured_kept cells w v l (drawn r cs) y h k = absurd h
-  toured_kept cells w v l (toured r ns) (changed u) h k = absurd k
-  toured_kept cells w v l (toured r ns) (cost u) h k = absurd k
-  toured_kept cells w v l (toured r ns) (drawn u ds) h k = absurd k
-  toured_kept cells w v l (toured r ns) (toured u ms) h k = λ n e.
-      let a = loop_kept w v cells l ns ms n u (subst (λ z. LoopTold order may p cells w v l ns z) (got r n e) h.0) k.0 in
-      (a.0, gives u a.0 a.1, a.2)
-
-  changed_kept : (c : Cell) (b : Bool) (x y : Told) → Changed p c b x → Changed q c b y → KeptIn x y
-  changed_kept c b (changed r) y h k = λ n e. absurd (let z : ◌≡◌ {A = ℕ} 0 1 = cc in omega arith)
-  changed_kept c b (cost r) y h k = absurd h
-  changed_kept c b (drawn r cs) y h k = absurd h
-  changed_kept c b (toured r ns) y h k = absurd h
-
-  pub right_kept : (a : Asked) (x y : Told) → Right order may p a x → Right order may q a y → KeptIn x y
-  right_kept (to_open c) x y h k = changed_kept c true x y h k
-  right_kept (to_close c) x y h k = changed_kept c false x y h k
-  right_kept (a_length s t w v) x y h k = costed_kept s t w v x y h k
-  right_kept (a_route s t w v c) x y h k = drawn_kept s t w v c x y h k
-  right_kept (a_loop cells w v l) x y h k = toured_kept cells w v l x y h k
+  pub right_kept : (a : Asked) (x y : Told) → Right order may (record { plan = p }) a x → Right order may (record { plan = q }) a y → KeptIn x y
+  right_kept (to_open c) x y h k = λ n e. no_length n (sym (ap length_in h) ∙ e)
+  right_kept (to_close c) x y h k = λ n e. no_length n (sym (ap length_in h) ∙ e)
+  right_kept (a_length s t w v) x y h k = by_results x y h.0 k.0 (ap length_in h.1) (ap length_in k.1) (λ n e.
+      cost_kept s t _ _ (all_yes (length_questions p s t w v) (length_questions q s t w v) (length_yes s t w v)) n k.0
+      (subst (CostTold order may p s t (first_no (length_questions p s t w v))) e h.2) k.2)
+  right_kept (a_route s t w v c) x y h k = by_results x y h.0 k.0 (ap length_in h.2) (ap length_in k.2) (λ n e.
+      cost_kept s t _ _ (all_yes (route_questions p s t w v c) (route_questions q s t w v c) (route_yes s t w v c)) n k.0
+      (subst (CostTold order may p s t (first_no (route_questions p s t w v c))) e h.3.0) k.3.0)
+  right_kept (a_loop cells w v l) x y h k = by_results x y h.0 k.0 (ap length_in h.2) (ap length_in k.2) (λ n e.
+      loop_kept w v cells l h.1 k.1 n k.0 (subst (LoopTold order may p cells w v l h.1) e h.3) k.3)

@@ -1,19 +1,21 @@
 -- Calls of a planner and their answers, and what calls make of a floor, by the calls alone.
-use Rattle.std.specs.Prelude.{◌≡◌, ℕ, Bool, true, false, List, [], ◌∷◌, Some, None, Ok, Err, Option, Result}
+use Rattle.std.specs.Prelude.{◌≡◌, ℕ, Bool, true, false, List, [], ◌∷◌, length, None, Option, Result, option_to_list}
+use Rattle.std.specs.List.{AllByRecursion, zip}
+use Rattle.std.specs.Option.{option_map}
+use Rattle.std.specs.Result.{result_ok, result_err}
 use Rattle.floor.specs.declared.Cell.{Cell}
 use Rattle.floor.specs.declared.Counts.{Counts}
 use Rattle.floor.specs.Plans.{Plan, closed}
 use Rattle.floor.specs.Routes.{Laying}
 use Rattle.rate.specs.declared.Comparison.{Comparison}
 use Rattle.rate.specs.declared.Comparison.TheVariants.{Same}
-use Rattle.rate.specs.Laws.{AtLeast}
-use Rattle.cheapest.specs.Cheapest.{legs, total, Tour}
 use Rattle.lengths.specs.declared.answers.Refusal.{Refusal}
-use Rattle.planner.specs.declared.answers.LoopRefusal.{LoopRefusal}
+use Rattle.lengths.specs.Questions.{number}
 use Rattle.lengths.specs.Answers.{LengthTold, RouteTold}
-use Rattle.planner.specs.Loops.{after, mark_answer, LoopTold}
+use Rattle.planner.specs.declared.answers.LoopRefusal.{LoopRefusal}
+use Rattle.planner.specs.Loops.{after, mark_answer, loop_number, loop_leg, LoopTold, NoCheaperTour}
 
--- A call with what it is about, and the lengths of the lists that it lends.
+-- A call with what it is about, and the lengths of the lists that it is lent.
 pub data Asked : Type 0 where
   to_open : (cell : Cell) → Asked
   to_close : (cell : Cell) → Asked
@@ -28,7 +30,7 @@ pub data Told : Type 0 where
   drawn : Result Counts Refusal → List Cell → Told
   toured : Result Counts LoopRefusal → List Counts → Told
 
--- what a planner is left with after a call
+-- what calls leave of a planner
 pub record State : Type 0 where
   pub plan : Plan
 
@@ -44,86 +46,62 @@ next s (a_length a b w v) = s
 next s (a_route a b w v c) = s
 next s (a_loop cs w v l) = s
 
+-- the plan that a call leaves
+abbrev pub after_call : Plan → Asked → Plan
+after_call p a = (next (record { plan = p }) a).plan
+
 -- what the calls of a list leave, one after another
 abbrev pub after_all : State → List Asked → State
 after_all s [] = s
 after_all s (a ∷ more) = after_all (next s a) more
 
--- an open or a close is answered whether it changed the cell
-abbrev pub Changed : Plan → Cell → Bool → Told → Type 0
-Changed p c b (changed r) = r ≡ mark_answer p c b
-Changed p c b (cost r) = ⊥
-Changed p c b (drawn r cs) = ⊥
-Changed p c b (toured r ns) = ⊥
+-- The answer is what the subject says for the call, in the state of that moment: whether the cell changed; a length; a route by its
+-- corners; a loop leg by leg, with a total than which no route for the whole loop is cheaper; each with its refusals.
+abbrev pub Right : (Counts → Counts → Comparison) → Laying → State → Asked → Told → Type 0
+Right order may s (to_open c) x = x ≡ changed (mark_answer s.plan c true)
+Right order may s (to_close c) x = x ≡ changed (mark_answer s.plan c false)
+Right order may s (a_length a b w v) x = (r : Result Counts Refusal) × (x ≡ cost r) × LengthTold order may s.plan a b w v r
+Right order may s (a_route a b w v c) x =
+    (r : Result Counts Refusal) × (cs : List Cell) × (x ≡ drawn r cs) × RouteTold order may s.plan a b w v c cs r
+Right order may s (a_loop cells w v l) x =
+    (r : Result Counts LoopRefusal) × (ns : List Counts) × (x ≡ toured r ns) ×
+    LoopTold order may s.plan cells w v l ns r × NoCheaperTour order may s.plan cells r
 
-module _ (order : Counts → Counts → Comparison) (may : Laying) where
-  -- a length
-  abbrev pub Costed : Plan → Cell → Cell → ℕ → ℕ → Told → Type 0
-  Costed p s t w v (changed r) = ⊥
-  Costed p s t w v (cost r) = LengthTold order may p s t w v r
-  Costed p s t w v (drawn r cs) = ⊥
-  Costed p s t w v (toured r ns) = ⊥
+-- the refusal that an answer is, by its number and its leg; only a loop's names a leg, and the others have 0
+abbrev pub refused : Told → Option (ℕ × ℕ)
+refused (changed r) = option_map (λ e. (number e, 0)) (result_err r)
+refused (cost r) = option_map (λ e. (number e, 0)) (result_err r)
+refused (drawn r cs) = option_map (λ e. (number e, 0)) (result_err r)
+refused (toured r ns) = option_map (λ e. (loop_number e, loop_leg e)) (result_err r)
 
-  -- a route
-  abbrev pub Drawn : Plan → Cell → Cell → ℕ → ℕ → ℕ → Told → Type 0
-  Drawn p s t w v c (changed r) = ⊥
-  Drawn p s t w v c (cost r) = ⊥
-  Drawn p s t w v c (drawn r cs) = RouteTold order may p s t w v c cs r
-  Drawn p s t w v c (toured r ns) = ⊥
-
-  -- a loop leg by leg, and a total than which no route for the whole loop is cheaper
-  abbrev pub Toured : Plan → List Cell → ℕ → ℕ → ℕ → Told → Type 0
-  Toured p cells w v l (changed r) = ⊥
-  Toured p cells w v l (cost r) = ⊥
-  Toured p cells w v l (drawn r cs) = ⊥
-  Toured p cells w v l (toured r ns) =
-      LoopTold order may p cells w v l ns r × ((n : Counts) → r ≡ Ok n → (ms : List Counts) → Tour may p (legs cells) ms → AtLeast order (total ms) n)
-
-  -- the answer is what the subject says for the call, in the plan of that moment
-  abbrev pub Right : Plan → Asked → Told → Type 0
-  Right p (to_open c) x = Changed p c true x
-  Right p (to_close c) x = Changed p c false x
-  Right p (a_length s t w v) x = Costed p s t w v x
-  Right p (a_route s t w v c) x = Drawn p s t w v c x
-  Right p (a_loop cells w v l) x = Toured p cells w v l x
-
-module _ (order : Counts → Counts → Comparison) where
-  -- both got lengths, which cost the same, or the same refusal
-  abbrev pub SameCost : {E : Type 0} → Result Counts E → Result Counts E → Type 0
-  SameCost (Ok n) (Ok m) = order n m ≡ Same
-  SameCost (Ok n) (Err f) = ⊥
-  SameCost (Err e) (Ok m) = ⊥
-  SameCost (Err e) (Err f) = e ≡ f
-
-  -- as many legs, each of which costs the same as the other
-  abbrev pub SameLegs : List Counts → List Counts → Type 0
-  SameLegs [] [] = Unit {0}
-  SameLegs [] (m ∷ ms) = ⊥
-  SameLegs (n ∷ ns) [] = ⊥
-  SameLegs (n ∷ ns) (m ∷ ms) = (order n m ≡ Same) × SameLegs ns ms
-
-  -- two answers that an office cannot tell apart by number, leg or cost
-  abbrev pub Alike : Told → Told → Type 0
-  Alike (changed r) (changed q) = r ≡ q
-  Alike (changed r) (cost q) = ⊥
-  Alike (changed r) (drawn q ds) = ⊥
-  Alike (changed r) (toured q ms) = ⊥
-  Alike (cost r) (changed q) = ⊥
-  Alike (cost r) (cost q) = SameCost r q
-  Alike (cost r) (drawn q ds) = ⊥
-  Alike (cost r) (toured q ms) = ⊥
-  Alike (drawn r cs) (changed q) = ⊥
-  Alike (drawn r cs) (cost q) = ⊥
-  Alike (drawn r cs) (drawn q ds) = SameCost r q
-  Alike (drawn r cs) (toured q ms) = ⊥
-  Alike (toured r ns) (changed q) = ⊥
-  Alike (toured r ns) (cost q) = ⊥
-  Alike (toured r ns) (drawn q ds) = ⊥
-  Alike (toured r ns) (toured q ms) = SameCost r q × SameLegs ns ms
+-- whether a cell changed, where the answer says it
+abbrev pub change : Told → Option Bool
+change (changed r) = result_ok r
+change (cost r) = None
+change (drawn r cs) = None
+change (toured r ns) = None
 
 -- the length that an answer gives, if it gives one: of a loop its total
 abbrev pub length_in : Told → Option Counts
 length_in (changed r) = None
-length_in (cost r) = elim r [ Ok n ↦ Some n | Err e ↦ None ]
-length_in (drawn r cs) = elim r [ Ok n ↦ Some n | Err e ↦ None ]
-length_in (toured r ns) = elim r [ Ok n ↦ Some n | Err e ↦ None ]
+length_in (cost r) = result_ok r
+length_in (drawn r cs) = result_ok r
+length_in (toured r ns) = result_ok r
+
+-- the legs' counts that an answer comes with
+abbrev pub legs_in : Told → List Counts
+legs_in (changed r) = []
+legs_in (cost r) = []
+legs_in (drawn r cs) = []
+legs_in (toured r ns) = ns
+
+-- as many counts, each of which costs the same as the other
+abbrev pub SameCosts : (Counts → Counts → Comparison) → List Counts → List Counts → Type 0
+SameCosts order ns ms = (length ns ≡ length ms) × AllByRecursion (λ n. order n.0 n.1 ≡ Same) (zip ns ms)
+
+-- Two answers that an office cannot tell apart by refusal, leg, change or cost.
+pub record Alike (order : Counts → Counts → Comparison) (x y : Told) : Type 0 where
+  pub refusals : refused x ≡ refused y
+  pub changes : change x ≡ change y
+  pub lengths : SameCosts order (option_to_list (length_in x)) (option_to_list (length_in y))
+  pub legs : SameCosts order (legs_in x) (legs_in y)

@@ -1,3 +1,5 @@
 pub mod Calls
 pub mod Records
+pub mod Lists
+pub mod Runs
 pub mod Promise

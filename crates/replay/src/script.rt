@@ -1,18 +1,38 @@
-// Calls as they are written: one to a line, a word and then cells, parted by single spaces.
+//! Calls as they are written: one to a line, a word and then cells, parted by single spaces.
 use crate::CELLS;
 use floor::Cell;
-use history::Call;
-use lengths::Room;
+use history::{Asks, Call, Rooms};
 use std::alloc::{AllocError, AllocFailed, Global};
 use std::fmt;
 use std::fmt::Display;
 use std::num::ParseIntError;
 
-// The full lists for the floor: an entry for each heading at each cell, and a corner for each cell.
-const FULL: Room = Room {
+// The full work lists for the floor, an entry for each heading at each cell. A route is lent a corner for each cell too, and a loop
+// a leg for each of its cells.
+const WORK: Rooms = Rooms {
     entries: 8 * CELLS,
     waiting: 8 * CELLS,
+    corners: 0,
+    legs: 0,
 };
+
+// Lists of no length, for calls that need none.
+const NOTHING: Rooms = Rooms {
+    entries: 0,
+    waiting: 0,
+    corners: 0,
+    legs: 0,
+};
+
+/// A line as a call. It owns the cells of a loop, which the call only borrows.
+#[derive(Drop)]
+pub enum Line {
+    Open(Cell),
+    Close(Cell),
+    Length(Cell, Cell),
+    Route(Cell, Cell),
+    Loop(Vec<Cell>),
+}
 
 // Why a line is not a call.
 #[derive(Clone, Copy)]
@@ -104,64 +124,87 @@ fn ends(cells: &[Cell]) -> Result<(Cell, Cell), Fault> {
     }
 }
 
-// The call of this name over these cells, with full lists.
-fn named(word: &str, cells: Vec<Cell>) -> Result<Call, Fault> {
+impl Line {
+    /// The call, with full lists.
+    pub fn call(&self) -> Call<'_> {
+        match self {
+            Line::Open(cell) => Call {
+                asks: Asks::Open(*cell),
+                rooms: NOTHING,
+            },
+            Line::Close(cell) => Call {
+                asks: Asks::Close(*cell),
+                rooms: NOTHING,
+            },
+            Line::Length(start, target) => Call {
+                asks: Asks::Length {
+                    start: *start,
+                    target: *target,
+                },
+                rooms: WORK,
+            },
+            Line::Route(start, target) => Call {
+                asks: Asks::Route {
+                    start: *start,
+                    target: *target,
+                },
+                rooms: Rooms {
+                    corners: CELLS,
+                    ..WORK
+                },
+            },
+            Line::Loop(cells) => Call {
+                asks: Asks::Loop(cells.as_slice()),
+                rooms: Rooms {
+                    legs: cells.len(),
+                    ..WORK
+                },
+            },
+        }
+    }
+}
+
+// The line of this name over these cells.
+fn named(word: &str, cells: Vec<Cell>) -> Result<Line, Fault> {
     match word {
-        "open" => Ok(Call::Open(only(cells.as_slice())?)),
-        "close" => Ok(Call::Close(only(cells.as_slice())?)),
+        "open" => Ok(Line::Open(only(cells.as_slice())?)),
+        "close" => Ok(Line::Close(only(cells.as_slice())?)),
         "length" => {
             let (start, target) = ends(cells.as_slice())?;
-            Ok(Call::Length {
-                start,
-                target,
-                room: FULL,
-            })
+            Ok(Line::Length(start, target))
         }
         "route" => {
             let (start, target) = ends(cells.as_slice())?;
-            Ok(Call::Route {
-                start,
-                target,
-                room: FULL,
-                corners: CELLS,
-            })
+            Ok(Line::Route(start, target))
         }
-        "loop" => {
-            let legs = cells.len();
-            Ok(Call::Loop {
-                cells,
-                room: FULL,
-                legs,
-            })
-        }
+        "loop" => Ok(Line::Loop(cells)),
         _ => Err(Fault::UnknownWord),
     }
 }
 
-fn call_of(heap: Global, line: &str) -> Result<Call, Fault> {
-    let Some((word, rest)) = line.split_once(' ') else {
-        return named(line, Vec::new(heap));
+fn line_of(heap: Global, text: &str) -> Result<Line, Fault> {
+    let Some((word, rest)) = text.split_once(' ') else {
+        return named(text, Vec::new(heap));
     };
     let numbers = numbers(heap, rest)?;
     named(word, paired(heap, numbers.as_slice())?)
 }
 
-fn add(heap: Global, calls: &mut Vec<Call>, line: &str) -> Result<(), Fault> {
-    calls.push(call_of(heap, line)?)?;
+fn add(heap: Global, lines: &mut Vec<Line>, text: &str) -> Result<(), Fault> {
+    lines.push(line_of(heap, text)?)?;
     Ok(())
 }
 
-// Every line as a call, or the first line that is none.
-// Kept: a loop, since a list of calls that finds no memory is told with its line too, which a chain would not know.
-pub fn read(heap: Global, text: &str) -> Result<Vec<Call>, BadLine> {
-    let mut calls = Vec::new(heap);
+/// Every line as a call, or the first line that is none.
+pub fn read(heap: Global, text: &str) -> Result<Vec<Line>, BadLine> {
+    let mut lines = Vec::new(heap);
     for line in text.lines() {
-        if let Err(fault) = add(heap, &mut calls, line) {
+        if let Err(fault) = add(heap, &mut lines, line) {
             return Err(BadLine {
-                line: calls.len().saturating_add(1),
+                line: lines.len().saturating_add(1),
                 fault,
             });
         }
     }
-    Ok(calls)
+    Ok(lines)
 }

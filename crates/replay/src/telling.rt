@@ -1,4 +1,4 @@
-// Answers as lines of text.
+//! Answers as lines of text, and whether two say the same.
 use floor::{Cell, Counts};
 use history::Answer;
 use lengths::Refusal;
@@ -6,21 +6,36 @@ use planner::LoopRefusal;
 use std::fmt;
 use std::fmt::Display;
 
-// What does not hang on the source: changes, refusals, and the counts of lengths, routes, loops and legs.
+/// An answer with the corners or the legs' counts that its call wrote.
 #[derive(Clone, Copy)]
-struct Costs<'a>(&'a Answer);
+pub struct Told<'a> {
+    pub answer: Answer,
+    pub corners: &'a [Cell],
+    pub legs: &'a [Counts],
+}
 
-// The whole answer.
-#[derive(Clone, Copy)]
-pub struct Told<'a>(pub &'a Answer);
+impl Told<'_> {
+    /// Whether two answers say the same, but for what may hang on the source: the finished places, and which of the cheapest routes is drawn.
+    pub fn agrees(&self, other: &Told<'_>) -> bool {
+        match (self.answer, other.answer) {
+            (Answer::Changed(one), Answer::Changed(two)) => one == two,
+            (Answer::Length(one), Answer::Length(two)) => {
+                one.map(|measured| measured.counts) == two.map(|measured| measured.counts)
+            }
+            (Answer::Route(one), Answer::Route(two)) => {
+                one.map(|drawn| drawn.measured.counts) == two.map(|drawn| drawn.measured.counts)
+            }
+            (Answer::Loop { answer: one, .. }, Answer::Loop { answer: two, .. }) => {
+                one == two && self.legs == other.legs
+            }
+            _ => false,
+        }
+    }
+}
 
 // Counts, the straight steps first.
 #[derive(Clone, Copy)]
 struct Steps(Counts);
-
-// What may hang on the source: how many places the search finished, and which of the cheapest routes it drew.
-#[derive(Clone, Copy)]
-struct Course<'a>(&'a Answer);
 
 impl Display for Steps {
     fn fmt<W: fmt::Write>(&self, f: &mut fmt::Formatter<W>) -> fmt::Result {
@@ -41,6 +56,18 @@ fn loop_refused<W: fmt::Write>(f: &mut fmt::Formatter<W>, refusal: LoopRefusal) 
     }
 }
 
+fn drawn<W: fmt::Write>(
+    f: &mut fmt::Formatter<W>,
+    counts: Counts,
+    corners: &[Cell],
+) -> fmt::Result {
+    write!(f, "route {} corners", Steps(counts))?;
+    for corner in corners {
+        write!(f, " {} {}", corner.row, corner.col)?;
+    }
+    Ok(())
+}
+
 fn toured<W: fmt::Write>(
     f: &mut fmt::Formatter<W>,
     counts: Counts,
@@ -53,49 +80,23 @@ fn toured<W: fmt::Write>(
     Ok(())
 }
 
-fn bends<W: fmt::Write>(f: &mut fmt::Formatter<W>, corners: &[Cell]) -> fmt::Result {
-    write!(f, " corners")?;
-    for corner in corners {
-        write!(f, " {} {}", corner.row, corner.col)?;
-    }
-    Ok(())
-}
-
-impl Display for Costs<'_> {
-    fn fmt<W: fmt::Write>(&self, f: &mut fmt::Formatter<W>) -> fmt::Result {
-        match self.0 {
-            Answer::Changed(Ok(true)) => write!(f, "changed yes"),
-            Answer::Changed(Ok(false)) => write!(f, "changed no"),
-            Answer::Changed(Err(refusal)) => refused(f, *refusal),
-            Answer::Length(Ok(measured)) => write!(f, "length {}", Steps(measured.counts)),
-            Answer::Length(Err(refusal)) => refused(f, *refusal),
-            Answer::Route { answer, .. } => match answer {
-                Ok(drawn) => write!(f, "route {}", Steps(drawn.measured.counts)),
-                Err(refusal) => refused(f, *refusal),
-            },
-            Answer::Loop { answer, legs } => match answer {
-                Ok(counts) => toured(f, *counts, legs.as_slice()),
-                Err(refusal) => loop_refused(f, *refusal),
-            },
-        }
-    }
-}
-
-impl Display for Course<'_> {
-    fn fmt<W: fmt::Write>(&self, f: &mut fmt::Formatter<W>) -> fmt::Result {
-        match self.0 {
-            Answer::Length(Ok(measured)) => write!(f, " finished {}", measured.finished),
-            Answer::Route {
-                answer: Ok(_),
-                corners,
-            } => bends(f, corners.as_slice()),
-            _ => Ok(()),
-        }
-    }
-}
-
 impl Display for Told<'_> {
     fn fmt<W: fmt::Write>(&self, f: &mut fmt::Formatter<W>) -> fmt::Result {
-        write!(f, "{}{}", Costs(self.0), Course(self.0))
+        match self.answer {
+            Answer::Changed(Ok(true)) => write!(f, "changed yes"),
+            Answer::Changed(Ok(false)) => write!(f, "changed no"),
+            Answer::Length(Ok(measured)) => {
+                let steps = Steps(measured.counts);
+                write!(f, "length {steps} finished {}", measured.finished)
+            }
+            Answer::Route(Ok(answer)) => drawn(f, answer.measured.counts, self.corners),
+            Answer::Loop { answer, .. } => match answer {
+                Ok(counts) => toured(f, counts, self.legs),
+                Err(refusal) => loop_refused(f, refusal),
+            },
+            Answer::Changed(Err(refusal))
+            | Answer::Length(Err(refusal))
+            | Answer::Route(Err(refusal)) => refused(f, refusal),
+        }
     }
 }
