@@ -137,8 +137,9 @@ impl<'a> Footprint for PackedSource<'a> {
 impl<'a> OnMemory<'a> for PackedSource<'a> {
     type Word = u64;
 
-    // Kept: the source's own promises what the memory holds afterwards, which this one cannot: memory lent for the trait's lifetime has no value
-    // after the call. So this one hands on.
+    ghost made = { λ rows cols before lender s. Made rows cols before (plan_of s.size.rows s.size.cols s.words.now) s.words.now × (s.words.ghost_name ≡ lender) };
+
+    // Kept: in the source's own the clauses name its memory, which callers that know the source can use as they are. So this one hands on.
     fn make(memory: &'a mut [u64], rows: usize, cols: usize) -> PackedSource<'a> {
         PackedSource::make(memory, rows, cols)
     }
