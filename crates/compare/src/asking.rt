@@ -3,7 +3,7 @@ use crate::courses::walk;
 use crate::exam::{Ask, Mark, Moment, Paper, Reply, View};
 use crate::grid::Grid;
 use crate::prices::{Price, Priced};
-use crate::steps::both;
+use crate::steps::{NO_STEPS, both};
 use crate::tally::Tally;
 use crate::words::Task;
 use floor::{Cell, Counts};
@@ -69,7 +69,7 @@ fn costs(reply: Reply, price: Price, counts: Counts) -> bool {
 
 // Kept: refusals are compared by their numbers, here and in the tables of edges, since it is the numbers that a user is told: a rule of the project.
 fn refuses(reply: Reply, number: u8) -> bool {
-    reply.err().map(Refusal::number) == Some(number)
+    reply.err() == Some(number)
 }
 
 fn put_marks<S: JumpSource, R: Rate>(
@@ -194,10 +194,9 @@ fn put_route<S: JumpSource, R: Rate>(
 
 // The leg that is refused first, counted from 1, and the number of its refusal.
 fn first_refused(legs: &[Ask]) -> Option<(usize, u8)> {
-    (1usize..).zip(legs).find_map(|(leg, ask)| ask
-        .reply
-        .err()
-        .map(|refusal| (leg, refusal.number())))
+    (1usize..)
+        .zip(legs)
+        .find_map(|(leg, ask)| ask.reply.err().map(|number| (leg, number)))
 }
 
 // The sum of the legs measured, if each costs what it should; what lies past them was not written.
@@ -210,7 +209,7 @@ fn summed(price: Price, legs: &[Ask], written: &[Counts], measured: usize) -> Op
         .all(|(ask, counts)| costs(ask.reply, price, *counts));
     if right && rest.iter().all(|counts| *counts == NO_COUNTS) {
         told.iter()
-            .try_fold(Counts::NONE, |sum, counts| both(sum, *counts))
+            .try_fold(NO_STEPS, |sum, counts| both(sum, *counts))
     } else {
         None
     }

@@ -1,6 +1,6 @@
 // Routes by their corners, walked step by step.
 use crate::grid::Grid;
-use crate::steps::{both, steps_on};
+use crate::steps::{NO_STEPS, both, steps_on};
 use floor::{Cell, Counts};
 use std::cmp::Ordering;
 
@@ -37,7 +37,7 @@ pub fn walk(grid: &Grid, corners: &[Cell]) -> Option<Counts> {
     };
     let mut at = *first;
     let mut before = None;
-    let mut counts = Counts::NONE;
+    let mut counts = NO_STEPS;
     for corner in rest {
         let (heading, steps) = line_between(at, *corner)?;
         if before == Some(heading) {

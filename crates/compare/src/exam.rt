@@ -4,7 +4,6 @@ use crate::flood::{Field, flood};
 use crate::grid::Grid;
 use crate::prices::Price;
 use floor::{Cell, Counts};
-use lengths::Refusal;
 use std::alloc::{AllocError, Global};
 use std::array;
 
@@ -32,8 +31,8 @@ pub struct View {
     pub jumps: [(u16, bool); HEADINGS],
 }
 
-// Counts of a cheapest route, or the first question that is answered no.
-pub type Reply = Result<Counts, Refusal>;
+// Counts of a cheapest route, or the number of the first question that is answered no.
+pub type Reply = Result<Counts, u8>;
 
 #[derive(Clone, Copy)]
 pub struct Ask {
@@ -116,18 +115,18 @@ fn picks(
 fn plain_reply(field: &Field<'_>, start: Cell, target: Cell) -> Reply {
     let grid = field.grid;
     if grid.place(start).is_none() {
-        return Err(Refusal::Outside);
+        return Err(1);
     }
     if grid.place(target).is_none() {
-        return Err(Refusal::TargetOutside);
+        return Err(2);
     }
     if !grid.is_open(start) {
-        return Err(Refusal::Closed);
+        return Err(3);
     }
     if !grid.is_open(target) {
-        return Err(Refusal::TargetClosed);
+        return Err(4);
     }
-    field.counts(target).ok_or(Refusal::NoRoute)
+    field.counts(target).ok_or(7)
 }
 
 fn asked(field: &Field<'_>, start: Cell, target: Cell) -> Ask {

@@ -1,7 +1,7 @@
 // Plain lengths: from one cell, step by step, until no cell can be reached at less cost.
 use crate::grid::Grid;
 use crate::prices::Price;
-use crate::steps::{both, steps_on};
+use crate::steps::{NO_STEPS, both, steps_on};
 use floor::{Cell, Counts};
 use std::alloc::{AllocError, Global};
 use std::collections::VecDeque;
@@ -69,7 +69,7 @@ pub fn flood(
         waiting: VecDeque::new(heap),
     };
     if grid.is_open(start) {
-        all.offer(start, Counts::NONE)?;
+        all.offer(start, NO_STEPS)?;
     }
     let turns = cells.saturating_mul(cells).saturating_mul(8);
     for _ in 0..turns {

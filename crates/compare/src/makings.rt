@@ -8,7 +8,7 @@ use planner::Planner;
 use rate::Rate;
 use rates::counter::CounterRate;
 use rates::exact::ExactRate;
-use source::{JumpSource, Size, SizeRefusal};
+use source::{JumpSource, SizeRefusal};
 use std::alloc::{AllocError, Global};
 
 // Rows, columns, and the number that refuses them however much memory there is.
@@ -48,7 +48,8 @@ fn check_sizes<W: Word>(line: &mut Line) {
 
 // Whether a source is the plan of no rows and no columns.
 fn is_nothing<S: JumpSource>(source: &mut S) -> bool {
-    source.size() == Size::NONE
+    let size = source.size();
+    (size.rows, size.cols) == (0, 0)
         && !source.is_open(ORIGIN)
         && !source.mark(ORIGIN, true)
         && source.jump(ORIGIN, 2) == (0, false)

@@ -1,6 +1,13 @@
 // Counts of steps, added up.
 use floor::Counts;
 
+// Before the first step.
+// Kept, as the sum below: beside the floor's own, since it is a rule of the project that what checks the answers shares no formula with them.
+pub const NO_STEPS: Counts = Counts {
+    straight: 0,
+    diagonal: 0,
+};
+
 // So many steps with one heading.
 pub fn steps_on(heading: usize, steps: u32) -> Counts {
     if heading % 2 == 0 {
@@ -17,7 +24,6 @@ pub fn steps_on(heading: usize, steps: u32) -> Counts {
 }
 
 // The counts of one way after another, if they are not too large.
-// Kept: beside the planner's own sum of counts, since it is a rule of the project that what checks the answers shares no formula with them.
 pub fn both(first: Counts, second: Counts) -> Option<Counts> {
     Some(Counts {
         straight: first.straight.checked_add(second.straight)?,
