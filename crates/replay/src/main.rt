@@ -12,7 +12,6 @@ use rates::exact::ExactRate;
 use record::Record;
 use std::io;
 use std::process::ExitCode;
-use telling::Told;
 
 // The floor has as many rows as columns.
 // Kept: beside those of `quoting`, since the floor here is not that of a sheet; one for both would be no plainer.
@@ -24,12 +23,14 @@ pub(crate) const CELLS: usize = SIDE * SIDE;
 // A word for each row, and one for each column.
 const WORDS: usize = 2 * SIDE;
 
-// How many calls the two runs do not answer alike.
-fn differing(answers: &[Told<'_>], others: &[Told<'_>]) -> usize {
-    answers
+// How many of the first calls, so many, the two runs do not answer alike.
+fn differing(one: &Record, two: &Record, count: usize) -> usize {
+    let mut first = one.written();
+    let mut second = two.written();
+    one.answers(count)
         .iter()
-        .zip(others)
-        .filter(|(answer, other)| !answer.agrees(other))
+        .zip(two.answers(count))
+        .filter(|(answer, other)| !first.told(answer).agrees(&second.told(other)))
         .count()
 }
 
@@ -57,12 +58,11 @@ fn run(rt: &HostRuntime, calls: &[Call<'_>]) -> anyhow::Result<ExitCode> {
         )?;
         return Ok(ExitCode::FAILURE);
     }
-    let answers = one.told(heap, put)?;
-    let others = two.told(heap, also_put)?;
-    for answer in answers.iter() {
-        println!(rt; "{answer}")?;
+    let mut written = one.written();
+    for answer in one.answers(all_put) {
+        println!(rt; "{}", written.told(answer))?;
     }
-    match differing(answers.as_slice(), others.as_slice()) {
+    match differing(&one, &two, all_put) {
         0 => println!(rt; "both sources answer alike")?,
         count => println!(rt; "the sources differ in {count} answers")?,
     }

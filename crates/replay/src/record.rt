@@ -58,24 +58,42 @@ impl Record {
         }
     }
 
-    /// The answers to the first calls, so many, each with what its call wrote.
-    pub fn told(&self, heap: Global, count: usize) -> Result<Vec<Told<'_>>, AllocError> {
-        let mut all = Vec::new(heap);
-        let mut corners = self.corners.as_slice();
-        let mut legs = self.legs.as_slice();
-        for answer in self.answers.iter().take(count) {
-            let (bends, more_corners) = corners
-                .split_at_checked(answer.corners())
-                .unwrap_or((&[], &[]));
-            let (counts, more_legs) = legs.split_at_checked(answer.legs()).unwrap_or((&[], &[]));
-            all.push(Told {
-                answer: *answer,
-                corners: bends,
-                legs: counts,
-            })?;
-            corners = more_corners;
-            legs = more_legs;
-        }
-        Ok(all)
+    /// The answers to the first calls, so many.
+    pub fn answers(&self, count: usize) -> &[Answer] {
+        self.answers.as_slice().get(..count).unwrap_or(&[])
     }
+
+    /// What all calls wrote.
+    pub fn written(&self) -> Written<'_> {
+        Written {
+            corners: self.corners.as_slice(),
+            legs: self.legs.as_slice(),
+        }
+    }
+}
+
+/// What calls wrote that are still to be told: what the first of them wrote stands in front.
+#[derive(Clone, Copy)]
+pub struct Written<'a> {
+    corners: &'a [Cell],
+    legs: &'a [Counts],
+}
+
+impl<'a> Written<'a> {
+    /// The next call's answer, with what it wrote. Made where it is told, since one for each call would take more room than the calls.
+    pub fn told(&mut self, answer: &Answer) -> Told<'a> {
+        Told {
+            answer: *answer,
+            corners: cut(&mut self.corners, answer.corners()),
+            legs: cut(&mut self.legs, answer.legs()),
+        }
+    }
+}
+
+// Takes so many from the front, if there are as many.
+fn cut<'a, T>(list: &mut &'a [T], count: usize) -> &'a [T] {
+    let all = *list;
+    let (front, rest) = all.split_at_checked(count).unwrap_or((&[], &[]));
+    *list = rest;
+    front
 }
