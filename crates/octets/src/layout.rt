@@ -141,7 +141,9 @@ impl<'a> Footprint for ByteSource<'a> {
 impl<'a> OnMemory<'a> for ByteSource<'a> {
     type Word = u8;
 
-    ghost made = { λ rows cols before lender s. Made rows cols before (plan_of s.size.rows s.size.cols s.bytes.now) s.bytes.now × (s.bytes.ghost_name ≡ lender) };
+    ghost made = { λ rows cols before lender s.
+        Made rows cols before (plan_of s.size.rows s.size.cols s.bytes.now) s.bytes.now
+        × (s.bytes.ghost_name ≡ lender) };
 
     // Kept: in the source's own the clauses name its memory, which callers that know the source can use as they are. So this one hands on.
     fn make(memory: &'a mut [u8], rows: usize, cols: usize) -> ByteSource<'a> {

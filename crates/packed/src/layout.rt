@@ -137,7 +137,9 @@ impl<'a> Footprint for PackedSource<'a> {
 impl<'a> OnMemory<'a> for PackedSource<'a> {
     type Word = u64;
 
-    ghost made = { λ rows cols before lender s. Made rows cols before (plan_of s.size.rows s.size.cols s.words.now) s.words.now × (s.words.ghost_name ≡ lender) };
+    ghost made = { λ rows cols before lender s.
+        Made rows cols before (plan_of s.size.rows s.size.cols s.words.now) s.words.now
+        × (s.words.ghost_name ≡ lender) };
 
     // Kept: in the source's own the clauses name its memory, which callers that know the source can use as they are. So this one hands on.
     fn make(memory: &'a mut [u64], rows: usize, cols: usize) -> PackedSource<'a> {

@@ -73,7 +73,7 @@ impl Record {
 }
 
 /// What calls wrote that are still to be told: what the first of them wrote stands in front.
-#[derive(Clone, Copy)]
+#[derive(Drop)]
 pub struct Written<'a> {
     corners: &'a [Cell],
     legs: &'a [Counts],

@@ -30,12 +30,13 @@ pub trait OnMemory<'a>: JumpSource + Footprint {
     // What the memory consists of.
     type Word;
 
-    // What making leaves, for so many rows and columns, of memory that held this and was lent under this name. Of the source's own words it
-    // says what the plan's part holds, and that all past it is as it was; where the check refuses, that all is.
+    // For so many rows and columns, memory that held this and was lent under this name, and the source made on it: what each source says of its
+    // own words. Ours say what the plan's part holds, and that all past it is as it was; where the check refuses, that all is.
     ghost made: { ℕ → ℕ → List Self.Word → ℕ → Self → Type 0 };
 
     // A new plan, all closed; where the check refuses, the plan of no rows and no columns.
     fn make(memory: &'a mut [Self::Word], rows: usize, cols: usize) -> Self
-        ensures plan { Self.JumpSource.meaning result ≡ plan_made rows cols (length memory.old) (Self.Footprint.needed rows cols) }
+        ensures plan { Self.JumpSource.meaning result ≡
+            plan_made rows cols (length memory.old) (Self.Footprint.needed rows cols) }
         ensures memory { made rows cols memory.old memory.entry.ghost_name result };
 }

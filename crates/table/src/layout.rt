@@ -138,7 +138,9 @@ impl<'a> Footprint for TableSource<'a> {
 impl<'a> OnMemory<'a> for TableSource<'a> {
     type Word = u16;
 
-    ghost made = { λ rows cols before lender s. Made rows cols before (plan_of s.size.rows s.size.cols s.numbers.now) s.numbers.now × (s.numbers.ghost_name ≡ lender) };
+    ghost made = { λ rows cols before lender s.
+        Made rows cols before (plan_of s.size.rows s.size.cols s.numbers.now) s.numbers.now
+        × (s.numbers.ghost_name ≡ lender) };
 
     // Kept: in the source's own the clauses name its memory, which callers that know the source can use as they are. So this one hands on.
     fn make(memory: &'a mut [u16], rows: usize, cols: usize) -> TableSource<'a> {
